@@ -27,7 +27,7 @@ use Rattle.process_player.specs.declared.preambles.Judged.{Judged}
 use Rattle.process_player.specs.declared.preambles.Judged.TheVariants.{Whole, Part}
 use Rattle.process_player.specs.Starts.{Preamble, heads_log, kind_word, preamble_in}
 use Rattle.process_player.specs.Refusals.{AtFirst, AtIssuer, AtSecond, AtSheet, EndWrong, IsAll, IsJudged, IsPreamble, IsTooLong, IsUpToWrong, RefusesPreamble, preamble_lines, section_below, section_lines, with_issuer}
-use Rattle.process_player.specs.Inner.Fronts.{AreAbsent, AreHeads, IsLast, IsNoPreamble, IsNoSection, IsPreambleTo, IsSection, IsSectionTo, IsWrongAt, end_of}
+use Rattle.process_player.specs.Inner.Fronts.{AreAbsent, AreHeads, IsLast, IsNoPreamble, IsNoSection, IsPreambleShort, IsPreambleTo, IsSection, IsSectionShort, IsSectionTo, IsWrongAt, end_of}
 use Rattle.process_player.specs.Inner.Reading.{HasRead, Passes}
 use Rattle.process_player.specs.Inner.Refusing.{OfAll}
 use Rattle.process_player.proofs.Passing.{passes_front, passes_of}
@@ -102,13 +102,15 @@ no_line : (ls : TextLines) → length ls < 1 → ls ≡ []
 no_line [] h = refl
 no_line (l ∷ ls) h = absurd (omega (arith, h))
 
--- the line that opens it does not come
+-- the line that opens it is not ahead
+pub opening_short : (word : List ℕ) (most from : ℕ) (text : List ℕ) → length (lines_in (drop from text)).lines < 1 → IsSectionShort word most from text
+opening_short word most from text few = ap (section_lines word most) (no_line (lines_in (drop from text)).lines few)
+
+-- and does not come
 pub none_opens : (word : List ℕ) (most from end : ℕ) (text : List ℕ) (left : Option (List ℕ)) → from ≤ length text → end ≡ length text → AreAbsent from 1 text left → IsNoSection word most from end text left
 none_opens word most from end text left long is few = record {
   ordered = omega (arith, long, is);
-  none =
-      ap (λ t. section_lines word most (lines_in (drop from t)).lines) (take_all end text (omega (arith, is)))
-      ∙ ap (section_lines word most) (no_line (lines_in (drop from text)).lines few.0);
+  none = ap (λ t. section_lines word most (lines_in (drop from t)).lines) (take_all end text (omega (arith, is))) ∙ opening_short word most from text few.0;
   judged = inl (is, few.1);
 }
 
@@ -145,18 +147,21 @@ module _ {from opening : ℕ} {text : List ℕ} (it : AreBetween from opening te
     says : number_behind word most is_one.0 ≡ Some n
     says = ap (number_behind word most) (sym is_part) ∙ said
 
-    -- fewer lines come than it says
+    -- fewer lines are ahead than it says
+    pub section_still_short : length (lines_in (drop opening after)).lines < n → IsSectionShort word most from after
+    section_still_short few =
+        let rest = (lines_in (drop opening after)).lines in
+        ap (section_lines word most) (lines_from (between_more it more) ∙ ap (λ ls. ls ++ rest) is_one.1) ∙ section_short word most is_one.0 rest n says few
+
+    -- and fewer come
     pub too_few : (end : ℕ) → end ≡ length after → AreAbsent opening n after m → IsNoSection word most from end after m
     too_few end is few =
-        let rest = (lines_in (drop opening after)).lines in
         let there = between_more it more in
         let ordered = there.ordered in
         let within = there.within in
         record {
           ordered = omega (arith, ordered, within, is);
-          none =
-              ap (λ t. section_lines word most (lines_in (drop from t)).lines) (take_all end after (omega (arith, is)))
-              ∙ ap (section_lines word most) (lines_from there ∙ ap (λ ls. ls ++ rest) is_one.1) ∙ section_short word most is_one.0 rest n says few.0;
+          none = ap (λ t. section_lines word most (lines_in (drop from t)).lines) (take_all end after (omega (arith, is))) ∙ section_still_short few.0;
           judged = inl (is, few.1);
         }
 
@@ -176,12 +181,14 @@ few_lines [] h = refl
 few_lines (l ∷ []) h = refl
 few_lines (l ∷ m ∷ ls) h = absurd (omega (arith, h))
 
--- the first does not come
+-- the first is not ahead
+pub first_short : (text : List ℕ) → length (lines_in text).lines < 1 → IsPreambleShort text
+first_short text few = few_lines (lines_in text).lines (omega (arith, few))
+
+-- and does not come
 pub no_first : (k : ProcessKind) (end : ℕ) (text : List ℕ) (left : Option (List ℕ)) → end ≡ length text → AreAbsent 0 1 text left → IsNoPreamble k end text left
 no_first k end text left is few = record {
-  none =
-      ap (λ t. preamble_lines (lines_in t).lines) (take_all end text (omega (arith, is)))
-      ∙ few_lines (lines_in text).lines (let fewer = few.0 in omega (arith, fewer));
+  none = ap (λ t. preamble_lines (lines_in t).lines) (take_all end text (omega (arith, is))) ∙ first_short text few.0;
   judged = inl (is, few.1);
 }
 
@@ -203,20 +210,21 @@ other_first k {end} {text} {left} it other =
     }
 
 module _ (k : ProcessKind) {first : ℕ} {text after : List ℕ} {r s : ℕ} {l m : Option (List ℕ)} (it : AreBetween 0 first text 1) (more : Takes text after r s l m []) where
-  -- the second does not come
-  pub no_second : (end : ℕ) → end ≡ length after → AreAbsent first 1 after m → IsNoPreamble k end after m
-  no_second end is few =
+  -- the second is not ahead
+  pub second_short : length (lines_in (drop first after)).lines < 1 → IsPreambleShort after
+  second_short few =
       let rest = (lines_in (drop first after)).lines in
       let there = between_more it more in
       let all : (lines_in after).lines ≡ there.lines ++ rest = lines_from there in
-      let fewer = few.0 in
       let counted = there.counted in
-      record {
-        none =
-            ap (λ t. preamble_lines (lines_in t).lines) (take_all end after (omega (arith, is)))
-            ∙ few_lines (lines_in after).lines (omega (arith, ap length all, length-append there.lines rest, counted, fewer));
-        judged = inl (is, few.1);
-      }
+      few_lines (lines_in after).lines (omega (arith, ap length all, length-append there.lines rest, counted, few))
+
+  -- and does not come
+  pub no_second : (end : ℕ) → end ≡ length after → AreAbsent first 1 after m → IsNoPreamble k end after m
+  no_second end is few = record {
+    none = ap (λ t. preamble_lines (lines_in t).lines) (take_all end after (omega (arith, is))) ∙ second_short few.0;
+    judged = inl (is, few.1);
+  }
 
   module _ {both : ℕ} (next : AreBetween first both after 1) where
     abbrev two_lines : AreBetween 0 both after 2
@@ -285,6 +293,10 @@ module _ (k : ProcessKind) {head : ℕ} {text after : List ℕ} {r s : ℕ} {l m
   abbrev on : AreBetween 0 head after 2
   on = between_more it more
 
+  -- the sheet is not ahead
+  pub sheet_short : IsSectionShort (codes "sheet ") 200_000 head after → IsPreambleShort after
+  sheet_short = no_sheet_lines on
+
   -- the line behind them opens no sheet
   sheet_wrong : (one : List ℕ) → number_behind (codes "sheet ") 200_000 one ≡ None → EndWrong k (it.lines ++ one ∷ [])
   sheet_wrong one none = subst (λ ls. EndWrong k (ls ++ one ∷ [])) (sym heads.are_these) (AtSheet heads.one heads.own one heads.right none)
@@ -323,6 +335,11 @@ module _ (k : ProcessKind) {head : ℕ} {text after : List ℕ} {r s : ℕ} {l m
     by_issuer rest =
         ap (with_issuer (front_lines ++ rest)) (of_sheet rest)
         ∙ ap (λ x. option_map (λ k. 2 + first.count + k) (section_lines (codes "issuer ") 100 x)) (behind_two front_lines rest (2 + first.count) front_size)
+
+    -- the issuer is not ahead
+    pub issuer_short : IsSectionShort (codes "issuer ") 100 sheet last → IsPreambleShort last
+    issuer_short none =
+        ap preamble_lines (lines_from (two_between last_head last_sheet)) ∙ by_issuer (lines_in (drop sheet last)).lines ∙ ap (option_map (λ k. 2 + first.count + k)) none
 
     -- the line behind them opens no issuer
     issuer_wrong : (one : List ℕ) → number_behind (codes "issuer ") 100 one ≡ None → EndWrong k (front_lines ++ one ∷ [])

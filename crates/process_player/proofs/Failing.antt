@@ -13,7 +13,7 @@ use Rattle.line_source.specs.Faults.{tells_of_source}
 use Rattle.process_player.specs.declared.faults.ProcessFault.{ProcessFault}
 use Rattle.process_player.specs.declared.faults.ProcessFault.TheVariants.{Read, Section, Log, OtherLog, NoJournal, TooLong, Write, OutOfMemory}
 use Rattle.process_player.specs.Faults.{tells_of_reader}
-use Rattle.process_player.specs.Inner.Calls.{IsOfReading, Reads}
+use Rattle.process_player.specs.Inner.Calls.{IsOfReading, Reads, StopsReading}
 use Rattle.process_player.specs.Inner.Told.{fault_of_section, of_source}
 
 -- ---- one that failed
@@ -82,9 +82,6 @@ module _ {A B : Type 0} {r : Result B ProcessFault} {read f h : ℕ} where
   pub source_long : {P : Type 0} {e : SourceFault} → r ≡ Err (of_source e) → ReadsWithin {A = A} (Err e) read f h → (4_294_967_296 < read → P) → IfErr r (IsOfReading P)
   source_long {P} {e} is it so = same_fault is (IsOfReading P) (long_of e read so it.reading)
 
-  pub source_others : {e : SourceFault} → r ≡ Err (of_source e) → ReadsWithin {A = A} (Err e) read f h → IfErr r (IsOfReading (4_294_967_296 < read))
-  source_others is it = source_long is it (λ long. long)
-
 pub reading_no_write : (P : Type 0) {e : ProcessFault} → IsOfReading P e → e ≢ Write
 reading_no_write P it h = subst (IsOfReading P) h it
 
@@ -96,6 +93,10 @@ section_tells B section.OutOfMemory = refl
 pub section_no_write : (why : ScheduleFault) → fault_of_section why ≢ Write
 section_no_write (section.Refused code line) h = cc
 section_no_write section.OutOfMemory h = cc
+
+section_no_read : (why : ScheduleFault) → fault_of_section why ≢ Read
+section_no_read (section.Refused code line) h = cc
+section_no_read section.OutOfMemory h = cc
 
 -- ---- one that answered
 
@@ -143,9 +144,29 @@ failed_short is_short a b source.TooLong is it = absurd (cc)
 failed_short is_short a b source.Read is it = it
 failed_short is_short a b source.OutOfMemory is it = absurd (cc)
 
--- no memory was wanted
+-- and not for what is looked for
+pub source_stops : {A B : Type 0} {r : Result B ProcessFault} {read f h : ℕ} {Short : Type 0} (is_short : List ℕ → Type 0) (a b : List ℕ) (e : SourceFault)
+    → r ≡ Err (of_source e) → ReadsWithin {A = A} (Err e) read f h → StopsShort is_short a b e → (is_short b → Short) → IfErr r (StopsReading (4_294_967_296 < read) Short)
+source_stops {read = read} {Short = Short} is_short a b e is it stopped so =
+    same_fault is (StopsReading (4_294_967_296 < read) Short)
+    (record { reading = long_of e read (λ long. long) it.reading; short = λ failed. so (failed_short is_short a b e failed stopped) })
+
+-- what falls short of a part falls short of the whole
+pub stops_on : {P S T : Type 0} {e : ProcessFault} → (S → T) → StopsReading P S e → StopsReading P T e
+stops_on so it = record { reading = it.reading; short = λ failed. so (it.short failed) }
+
+-- it is another fault
+pub no_read : {P : Type 0} {e other : ProcessFault} → e ≡ other → other ≢ Read → e ≡ Read → P
+no_read is none read = absurd (none (sym is ∙ read))
+
 pub memory_no_read : {P : Type 0} {e : ProcessFault} → e ≡ OutOfMemory → e ≡ Read → P
-memory_no_read memory read = absurd (let both : OutOfMemory ≡ Read = sym memory ∙ read in cc)
+memory_no_read memory = no_read memory (λ h. cc)
+
+pub memory_stops : {P S : Type 0} → StopsReading P S OutOfMemory
+memory_stops = record { reading = tt; short = memory_no_read refl }
+
+pub section_no_fail : {P : Type 0} {e : ProcessFault} (why : ScheduleFault) → e ≡ fault_of_section why → e ≡ Read → P
+section_no_fail why is = no_read is (section_no_read why)
 
 -- ---- where more was read
 

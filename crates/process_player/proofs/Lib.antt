@@ -8,6 +8,7 @@ pub mod Ends
 pub mod AtHand
 pub mod PreambleLaws
 pub mod StoredLaws
+pub mod Unbegun
 pub mod Commands
 pub mod CommandTexts
 pub mod Answered

@@ -112,6 +112,9 @@ source_rejects own next source.OutOfMemory read a (Some xs) so it = tt
 pub log_no_write : (head : LogHead) (log : List ℕ) {e : ProcessFault} → RejectsLog head log e → e ≢ fault.Write
 log_no_write head log it h = subst (RejectsLog head log) h it
 
+pub log_no_read : {P : Type 0} (head : LogHead) (log : List ℕ) {e : ProcessFault} → RejectsLog head log e → e ≡ fault.Read → P
+log_no_read head log it h = absurd (subst (RejectsLog head log) h it)
+
 log_tells : (B : Type 0) (head : LogHead) (log : List ℕ) (e : ProcessFault) → RejectsLog head log e → tells_of_reader {A = B} (Err e) ≡ false
 log_tells B head log fault.Read it = absurd it
 log_tells B head log (fault.Section why) it = refl

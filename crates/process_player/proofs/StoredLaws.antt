@@ -33,7 +33,7 @@ use Rattle.process_player.specs.declared.heads.ProcessKind.{ProcessKind}
 use Rattle.process_player.specs.Refusals.{IsNoJournal, RefusesJournal, Rejects, SaysLog, log_there, stored_lines}
 use Rattle.process_player.specs.Starts.{GoesOn, HasLog, HasNone, IsStored}
 use Rattle.process_player.specs.Inner.Groups.{IsAmong, group_said}
-use Rattle.process_player.specs.Inner.Reading.{HasBegun, HasRead, HasTaken, Passes}
+use Rattle.process_player.specs.Inner.Reading.{AreStoredShort, HasBegun, HasRead, HasTaken, Passes}
 use Rattle.process_player.specs.Inner.Refusing.{OfAll, RejectsLog, RejectsStored}
 use Rattle.process_player.proofs.Between.{between_counted, first_whole}
 use Rattle.process_player.proofs.CommandTexts.{first_between, lines_with}
@@ -46,17 +46,21 @@ all_ahead : {a a' b xs ys : List ℕ} {r s : ℕ} → a' ≡ a → Takes a' b r 
 all_ahead {a} {a'} {b} {xs} {ys} e t =
     ap (λ u. u ++ xs) (sym e) ∙ ap (λ u. a' ++ u) t.consumed ∙ sym (append_assoc a' t.came ys) ∙ ap (λ u. u ++ ys) t.joined
 
--- no line comes
+-- no line is ahead
 none_first : (ls : TextLines) → length ls < 1 → ls ≡ []
 none_first [] few = refl
 none_first (l ∷ ls) few = absurd (omega (arith, few))
 
+pub none_ahead : (next : ℕ) (text : List ℕ) → length (lines_in text).lines < 1 → AreStoredShort next text
+none_ahead next text few = ap (stored_lines next) (none_first (lines_in text).lines few)
+
+-- and none comes
 pub none_comes : (own : ReadLog) (next : ℕ) {a a' b : List ℕ} {r s : ℕ} {l m : Option (List ℕ)} → a' ≡ a → Takes a' b r s l m [] → AreFewer 0 1 b m
     → OfAll (RejectsStored own next (fault.Section (Refused code.Lines next))) a l
 none_comes own next {l = None} same it few = tt
 none_comes own next {l = Some xs} {m = None} same it few = absurd it.consumed
 none_comes own next {b = b} {l = Some xs} {m = Some ys} same it few =
-    ap (λ u. stored_lines next (lines_in u).lines) (all_ahead same it ∙ ap (λ u. b ++ u) few.1 ∙ append-nil b) ∙ ap (stored_lines next) (none_first (lines_in b).lines few.0)
+    ap (λ u. stored_lines next (lines_in u).lines) (all_ahead same it ∙ ap (λ u. b ++ u) few.1 ∙ append-nil b) ∙ none_ahead next b few.0
 
 -- ---- the head of a log
 
@@ -126,7 +130,19 @@ module _ (own : ReadLog) {a a' b : List ℕ} {r s : ℕ} {l m : Option (List ℕ
     front : take end c ≡ line (take (end - 1) b)
     front = ap (take end) (sym more.joined) ∙ take-append-le end b more.came one.within ∙ first_whole one
 
-    -- fewer lines come than it says
+    -- fewer lines are ahead than it says
+    pub few_ahead : (next count : ℕ) → is_same (take (end - 1) b) (codes "new") ≡ false → section_in (codes "log ") 4_294_967_295 (take (end - 1) b) ≡ Some count
+        → length (lines_in (drop end c)).lines < count → AreStoredShort next c
+    few_ahead next count not_new said few =
+        let below = (lines_in (drop end c)).lines in
+        let all : (lines_in c).lines ≡ take (end - 1) b ∷ below =
+        ap (λ u. (lines_in u).lines) (sym (take-append-drop end c) ∙ ap (λ u. u ++ drop end c) front)
+        ∙ lines_with (take (end - 1) b) (drop end c) (ap (lacks 10) (first_between one).taken ∙ (first_between one).whole) in
+        ap (stored_lines next) all
+        ∙ ap (λ x. cond x (Ok 0) (log_there next below (section_in (codes "log ") 4_294_967_295 (take (end - 1) b)))) not_new
+        ∙ ap (log_there next below) said ∙ ap (λ x. cond x (Ok count) (Err (Refused code.Lines next))) (lt-leb count (length below) few)
+
+    -- and fewer come
     pub too_few : (next count : ℕ) → is_same (take (end - 1) b) (codes "new") ≡ false → section_in (codes "log ") 4_294_967_295 (take (end - 1) b) ≡ Some count
         → AreFewer end count c n → OfAll (RejectsStored own next (fault.Section (Refused code.Lines next))) a l
     too_few next count not_new said few = few_in l n same both_reads few.1
@@ -135,13 +151,7 @@ module _ (own : ReadLog) {a a' b : List ℕ} {r s : ℕ} {l m : Option (List ℕ
         few_in None n' e t at_end = tt
         few_in (Some xs) None e t at_end = absurd t.consumed
         few_in (Some xs) (Some ys) e t at_end =
-            let below = (lines_in (drop end c)).lines in
-            let all : (lines_in (a ++ xs)).lines ≡ take (end - 1) b ∷ below =
-            ap (λ u. (lines_in u).lines) (all_ahead e t ∙ ap (λ u. c ++ u) at_end ∙ append-nil c ∙ sym (take-append-drop end c) ∙ ap (λ u. u ++ drop end c) front)
-            ∙ lines_with (take (end - 1) b) (drop end c) (ap (lacks 10) (first_between one).taken ∙ (first_between one).whole) in
-            ap (stored_lines next) all
-            ∙ ap (λ x. cond x (Ok 0) (log_there next below (section_in (codes "log ") 4_294_967_295 (take (end - 1) b)))) not_new
-            ∙ ap (log_there next below) said ∙ ap (λ x. cond x (Ok count) (Err (Refused code.Lines next))) (lt-leb count (length below) few.0)
+            ap (λ u. stored_lines next (lines_in u).lines) (all_ahead e t ∙ ap (λ u. c ++ u) at_end ∙ append-nil c) ∙ few_ahead next count not_new said few.0
 
     module _ {all count : ℕ} (lines : AreBetween end all c count) where
       both : take all c ≡ line (take (end - 1) b) ++ drop end (take all c)
@@ -219,7 +229,7 @@ journal_at_first (AgentOf a) k agents is none =
     absurd (cc)
 
 -- a log that is read is whole lines
-log_lines_of : (text : List ℕ) (r : ReadLog) → log_in text ≡ Ok r → text ≡ lines_text (lines_in text).lines
+pub log_lines_of : (text : List ℕ) (r : ReadLog) → log_in text ≡ Ok r → text ≡ lines_text (lines_in text).lines
 log_lines_of text r read =
     let it = log_read text r read in
     let ls = log_lines r.head it.0 it.1 in

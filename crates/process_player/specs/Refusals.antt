@@ -1,5 +1,5 @@
 -- What an input has that is refused.
-use Rattle.std.specs.Prelude.{◌≡◌, ℕ, ◌+◌, ◌<◌, ◌≤◌, nat_le, if◌then◌else◌, Bool, true, false, List, [], ◌∷◌, ◌++◌, length, drop, Option, Some, None, Result, Ok, Err, codes, ◌⊎◌}
+use Rattle.std.specs.Prelude.{◌≡◌, ℕ, ◌+◌, ◌<◌, ◌≤◌, nat_le, if◌then◌else◌, true, false, List, [], ◌∷◌, ◌++◌, length, drop, Option, Some, None, Result, Ok, Err, codes, ◌⊎◌}
 use Rattle.std.specs.List.{list_all}
 use Rattle.std.specs.Option.{option_map}
 use Rattle.metering_model.specs.Batch.{lacks}
@@ -13,7 +13,7 @@ use Rattle.input_sections.specs.declared.faults.ScheduleFault.TheVariants.{Refus
 use Rattle.input_sections.specs.declared.faults.ScheduleCode.TheVariants as code
 use Rattle.input_sections.specs.Sections.{left, number_behind}
 use Rattle.log_text.specs.declared.faults.LogCode.{LogCode}
-use Rattle.log_text.specs.LogText.{AgentOf, LogHead, NodeOf, ReadLog, Who, has_head, log_in, most_kept_lines, section_in}
+use Rattle.log_text.specs.LogText.{AgentOf, NodeOf, ReadLog, Who, has_head, log_in, most_kept_lines, section_in}
 use Rattle.group_process.specs.Journals.{keeps_journal_of}
 use Rattle.process_player.specs.declared.faults.ProcessFault.{ProcessFault}
 use Rattle.process_player.specs.declared.faults.ProcessFault.TheVariants as fault

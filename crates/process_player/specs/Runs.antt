@@ -68,6 +68,18 @@ pub record Runs (k : ProcessKind) (known known' old new : Option (List ℕ)) (la
   pub is_run : IsRun k bytes last said piece
   pub written : Appends old new said
 
+-- These bytes came, and no front of them begins a process.
+pub record BeginsNone (k : ProcessKind) (known known' : Option (List ℕ)) : Type 0 where
+  pub came : List ℕ
+  pub consumed : Consumes known known' came
+  pub none : (text more : List ℕ) (p : Process) → Begins k text p → came ≢ text ++ more
+
+-- Nothing was written: the writer is as it was. Where a call of the reader failed, no front of all that had come begins a process: so
+-- whenever more is read, a process that is begun by what came has said so.
+pub record StaysUnbegun {W : Type 0} (k : ProcessKind) (why : ProcessFault) (known known' : Option (List ℕ)) (old new : W) : Type 0 where
+  pub unwritten : new ≡ old
+  pub unbegun : why ≡ fault.Read → BeginsNone k known known'
+
 -- The input has begun a process, and just whole answers were written, to what it asks first. The rest was read, or is left. Where a
 -- call of the reader failed, the piece holds no whole command: so whenever more is read, all that came whole was answered.
 pub record RunsWhole (k : ProcessKind) (why : ProcessFault) (known known' old new : Option (List ℕ)) : Type 0 where

@@ -10,7 +10,7 @@ ghost use Rattle.process_player.specs.Refusals.{IsNoJournal, Rejects};
 ghost use Rattle.process_player.specs.Starts.{GoesOn};
 ghost use Rattle.process_player.specs.Inner.Calls.{Reads};
 ghost use Rattle.process_player.specs.Inner.Groups.{IsAmong, group_said};
-ghost use Rattle.process_player.specs.Inner.Reading.{HasBegun};
+ghost use Rattle.process_player.specs.Inner.Reading.{HasBegun, LacksBeginning};
 ghost use Rattle.process_player.specs.Inner.Refusing.{OfAll};
 
 use crate::faults::ProcessFault;
@@ -151,6 +151,8 @@ pub(crate) fn begin<S: Source>(
     ensures reads { Reads result unread.new.read (S.failed_calls source.old)
         (S.failed_calls source.new) }
     ensures no_write { result ≢ Err ProcessFault.Write }
+    ensures failed { IfErr result (λ fault. fault ≡ ProcessFault.Read
+        → LacksBeginning kind unread.old.bytes (S.remaining source.old) (S.remaining source.new)) }
 {
     let preamble = read_preamble(alloc, kind, unread, source)?;
     match read_stored(alloc, &preamble.own, preamble.line, unread, source) {

@@ -7,10 +7,10 @@ ghost use Rattle.input_sections.specs.declared.faults.ScheduleFault.{ScheduleFau
 ghost use Rattle.input_sections.specs.Sections as sections;
 ghost use Rattle.line_source.specs.Reading.{ReadsUpTo, Takes};
 ghost use Rattle.process_player.specs.Starts.{preamble_in};
-ghost use Rattle.process_player.specs.Inner.Calls.{IsOfReading, Reads};
-ghost use Rattle.process_player.specs.Inner.Fronts.{AreHeadsTo, IsPreambleTo, IsSectionTo, end_of};
+ghost use Rattle.process_player.specs.Inner.Calls.{Reads, StopsReading};
+ghost use Rattle.process_player.specs.Inner.Fronts.{AreHeadsTo, IsPreambleShort, IsPreambleTo, IsSectionShort, IsSectionTo, end_of};
 ghost use Rattle.process_player.specs.Inner.SheetAndIssuer.{sheet_and_issuer_in};
-ghost use Rattle.process_player.specs.Inner.Reading.{HasRead};
+ghost use Rattle.process_player.specs.Inner.Reading.{HasRead, LacksPreamble};
 ghost use Rattle.process_player.specs.Inner.Refusing.{OfAll, RejectsPreamble};
 
 use crate::faults::{ProcessFault, fault_of_section};
@@ -146,7 +146,8 @@ fn section_end<S: Source>(
     ensures block { ReadsUpTo most_input_bytes unread.old.bytes unread.new.bytes }
     ensures reads { Reads result unread.new.read (S.failed_calls source.old)
         (S.failed_calls source.new) }
-    ensures others { IfErr result (IsOfReading (most_transcript_bytes < unread.new.read)) }
+    ensures others { IfErr result (StopsReading (most_transcript_bytes < unread.new.read)
+        (IsSectionShort word.now most from unread.new.bytes)) }
 {
     let Found::Lines(opening) = lines_end_within(unread, source, from, 1, MOST_BYTES)? else {
         return Ok(Judged::Part(unread.ahead().len()));
@@ -178,7 +179,8 @@ fn heads_end<S: Source>(
     ensures block { ReadsUpTo most_input_bytes unread.old.bytes unread.new.bytes }
     ensures reads { Reads result unread.new.read (S.failed_calls source.old)
         (S.failed_calls source.new) }
-    ensures others { IfErr result (IsOfReading (most_transcript_bytes < unread.new.read)) }
+    ensures others { IfErr result (StopsReading (most_transcript_bytes < unread.new.read)
+        (IsPreambleShort unread.new.bytes)) }
 {
     let Found::Lines(first) = lines_end_within(unread, source, 0, 1, MOST_BYTES)? else {
         return Ok(Judged::Part(unread.ahead().len()));
@@ -214,7 +216,8 @@ fn preamble_end<S: Source>(
     ensures block { ReadsUpTo most_input_bytes unread.old.bytes unread.new.bytes }
     ensures reads { Reads result unread.new.read (S.failed_calls source.old)
         (S.failed_calls source.new) }
-    ensures others { IfErr result (IsOfReading (most_transcript_bytes < unread.new.read)) }
+    ensures others { IfErr result (StopsReading (most_transcript_bytes < unread.new.read)
+        (IsPreambleShort unread.new.bytes)) }
 {
     let head = match heads_end(alloc, kind, unread, source)? {
         Judged::Whole(head) => head,
@@ -244,6 +247,9 @@ pub(crate) fn read_preamble<S: Source>(
     ensures reads { Reads result unread.new.read (S.failed_calls source.old)
         (S.failed_calls source.new) }
     ensures no_write { result ≢ Err ProcessFault.Write }
+    ensures failed { IfErr result (λ fault. fault ≡ ProcessFault.Read
+        → LacksPreamble unread.old.bytes unread.new.bytes
+        (S.remaining source.old) (S.remaining source.new)) }
 {
     unread.mark();
     let judged = preamble_end(alloc, kind, unread, source)?;

@@ -10,7 +10,7 @@ ghost use Rattle.process_text.specs.declared.processes.Process.{Process};
 ghost use Rattle.process_player.specs.declared.faults.ProcessFault.{ProcessFault};
 ghost use Rattle.process_player.specs.Faults.{FailsAsTold, IsRefusal, tells_of_writer};
 ghost use Rattle.process_player.specs.Refusals.{Rejects};
-ghost use Rattle.process_player.specs.Runs.{RunsToEnd, RunsTorn, RunsWhole};
+ghost use Rattle.process_player.specs.Runs.{RunsToEnd, RunsTorn, RunsWhole, StaysUnbegun};
 ghost use Rattle.process_player.specs.Inner.Calls.{IsLong, IsOfReading, IsOfServing, Reads, ReadsAndWrites};
 ghost use Rattle.process_player.specs.Inner.Reading.{Continues, ContinuesWhole, ContinuesWithin, EndsHere, IsCommandAt, IsTorn, Passes, ServesOne, StopsBefore, StopsWithin};
 
@@ -222,11 +222,13 @@ pub fn process_text<R: Source, W: Sink>(
         (W.contents writer.old) (W.contents writer.new)) }
 
     // What is refused begins nothing, and at another fault but `Write` whole answers stand, or nothing was begun; after `Read`
-    // the answers to all commands that had come whole.
+    // the answers to all commands that had come whole, or what begins a process had not come whole.
     ensures kept { IfErr result (λ fault. IsRefusal fault → writer.new ≡ writer.old) }
     ensures whole { IfErr result (λ fault. fault ≢ ProcessFault.Write
-        → (writer.new ≡ writer.old) ⊎ RunsWhole kind fault (R.remaining reader.old)
-        (R.remaining reader.new) (W.contents writer.old) (W.contents writer.new)) }
+        → StaysUnbegun kind fault (R.remaining reader.old) (R.remaining reader.new)
+        writer.old writer.new
+        ⊎ RunsWhole kind fault (R.remaining reader.old) (R.remaining reader.new)
+        (W.contents writer.old) (W.contents writer.new)) }
 
     // After `Write` a prefix of an answer stands behind whole ones.
     ensures torn { result ≡ Err ProcessFault.Write

@@ -5,7 +5,7 @@ ghost use Rattle.process_player.specs.declared.faults.ProcessFault.{ProcessFault
 ghost use Rattle.metering_model.specs.Limits.{most_transcript_bytes};
 ghost use Rattle.log_text.specs.LogText.{IsLogHead, log_in, most_kept_lines, section_in};
 ghost use Rattle.process_player.specs.Inner.Calls.{Reads};
-ghost use Rattle.process_player.specs.Inner.Reading.{HasTaken};
+ghost use Rattle.process_player.specs.Inner.Reading.{HasTaken, LacksStored};
 ghost use Rattle.process_player.specs.Inner.Refusing.{OfAll, RejectsLog, RejectsStored};
 
 use crate::faults::{ProcessFault, refused_at};
@@ -66,6 +66,9 @@ pub(crate) fn read_stored<S: Source>(
     ensures reads { Reads result unread.new.read (S.failed_calls source.old)
         (S.failed_calls source.new) }
     ensures no_write { result ≢ Err ProcessFault.Write }
+    ensures failed { IfErr result (λ fault. fault ≡ ProcessFault.Read
+        → LacksStored line unread.old.bytes unread.new.bytes
+        (S.remaining source.old) (S.remaining source.new)) }
 {
     unread.mark();
     let Some(end) = lines_end(unread, source, 0, 1)? else {

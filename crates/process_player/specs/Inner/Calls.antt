@@ -17,6 +17,11 @@ IsOfReading Long fault.TooLong = Long
 IsOfReading Long fault.Write = ⊥
 IsOfReading Long fault.OutOfMemory = Unit {0}
 
+-- the same, and where a read failed that holds of what is ahead
+pub record StopsReading (Long Short : Type 0) (why : ProcessFault) : Type 0 where
+  pub reading : IsOfReading Long why
+  pub short : why ≡ fault.Read → Short
+
 -- or of an answer
 abbrev pub IsOfServing : (Long : Type 0) → ProcessFault → Type 0
 IsOfServing Long fault.Read = Unit {0}

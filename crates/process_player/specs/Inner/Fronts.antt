@@ -25,6 +25,14 @@ IsOver text left = IsAtEnd left ⊎ (most_input_bytes < length text)
 abbrev pub IsLast : (end : ℕ) (text : List ℕ) (left : Option (List ℕ)) → Type 0
 IsLast end text left = (end ≡ length text) × IsOver text left
 
+-- no section is ahead behind that place
+abbrev pub IsSectionShort : (word : List ℕ) (most from : ℕ) (text : List ℕ) → Type 0
+IsSectionShort word most from text = section_lines word most (lines_in (drop from text)).lines ≡ None
+
+-- no preamble is ahead
+abbrev pub IsPreambleShort : List ℕ → Type 0
+IsPreambleShort text = preamble_lines (lines_in text).lines ≡ None
+
 -- so many lines are not ahead behind that place
 abbrev pub AreAbsent : (from count : ℕ) (text : List ℕ) (left : Option (List ℕ)) → Type 0
 AreAbsent from count text left = (length (lines_in (drop from text)).lines < count) × IsOver text left

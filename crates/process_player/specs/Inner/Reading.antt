@@ -1,11 +1,14 @@
 -- What was read and taken of a stream, and what was done with it.
-use Rattle.std.specs.Prelude.{◌≡◌, ◌≢◌, ℕ, ◌-◌, ◌<◌, ◌≤◌, List, [], ◌++◌, length, take, drop, Option, Ok}
+use Rattle.std.specs.Prelude.{◌≡◌, ◌≢◌, ℕ, ◌-◌, ◌<◌, ◌≤◌, List, [], ◌++◌, length, take, drop, Option, Ok, Err}
 use Rattle.std.specs.List.{flat_map}
 use Rattle.std.specs.Io.KnownBytes.{Appends, Consumes, IsAtEnd}
 use Rattle.counted_io.specs.Writing.{AppendsPrefix}
 use Rattle.process_text.specs.declared.processes.Process.{Process}
+use Rattle.metering_model.specs.BatchReading.{lines_in}
 use Rattle.metering_model.specs.KeptText.{KeptAmong}
 use Rattle.metering_model.specs.Sheet.{Sheet, Issuer}
+use Rattle.input_sections.specs.declared.faults.ScheduleFault.TheVariants.{Refused}
+use Rattle.input_sections.specs.declared.faults.ScheduleCode.TheVariants as code
 use Rattle.input_sections.specs.Sections.{Unread}
 use Rattle.input_sections.specs.Sections as sections
 use Rattle.log_text.specs.LogText.{ReadLog}
@@ -13,7 +16,9 @@ use Rattle.process_player.specs.declared.faults.ProcessFault.{ProcessFault}
 use Rattle.process_player.specs.declared.faults.ProcessFault.TheVariants as fault
 use Rattle.process_player.specs.declared.heads.ProcessKind.{ProcessKind}
 use Rattle.process_player.specs.Starts.{Begins, IsStored, preamble_in}
+use Rattle.process_player.specs.Refusals.{stored_lines}
 use Rattle.process_player.specs.Runs.{Asked, Does, IsAsked, Serves, bytes_of}
+use Rattle.process_player.specs.Inner.Fronts.{IsPreambleShort}
 
 -- More bytes came, and of these and those before them some were taken: the rest is ahead.
 pub record Passes (ahead rest : List ℕ) (left left' : Option (List ℕ)) (taken : List ℕ) : Type 0 where
@@ -114,3 +119,23 @@ pub record HasBegun (k : ProcessKind) (p : Process) (ahead rest : List ℕ) (lef
   pub begins : Begins k text p
   pub passes : Passes ahead rest left left' text
   pub at_hand : length rest < 65_536
+
+-- More came, and nothing of it was taken: no preamble is ahead.
+pub record LacksPreamble (ahead rest : List ℕ) (left left' : Option (List ℕ)) : Type 0 where
+  pub passes : Passes ahead rest left left' []
+  pub short : IsPreambleShort rest
+
+-- Fewer lines are ahead than tell what was stored, the first of which has that number.
+abbrev pub AreStoredShort : (next : ℕ) → List ℕ → Type 0
+AreStoredShort next rest = stored_lines next (lines_in rest).lines ≡ Err (Refused code.Lines next)
+
+-- More came, and nothing of it was taken: what was stored is not all ahead.
+pub record LacksStored (next : ℕ) (ahead rest : List ℕ) (left left' : Option (List ℕ)) : Type 0 where
+  pub passes : Passes ahead rest left left' []
+  pub short : AreStoredShort next rest
+
+-- More came, and no front of it and of what was ahead begins a process.
+pub record LacksBeginning (k : ProcessKind) (ahead : List ℕ) (left left' : Option (List ℕ)) : Type 0 where
+  pub came : List ℕ
+  pub consumed : Consumes left left' came
+  pub none : (text more : List ℕ) (p : Process) → Begins k text p → ahead ++ came ≢ text ++ more

@@ -10,5 +10,5 @@ returns-in-Err g c =
     record {
       outcome =
           process_comes_to g.W.Sink c.args.kind c.in-Err.fault known _ _ _ _ told.calls.reads told.calls.writes told.kept
-          (λ other. has_answered _ c.args.kind known _ _ _ (told.whole other)) (λ is. (_, told.torn (ap Err is))) told.refused;
+          (λ other. has_answered c.args.kind known _ _ _ (told.whole other)) (λ is. (_, told.torn (ap Err is))) told.refused;
     }

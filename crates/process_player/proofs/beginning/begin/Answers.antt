@@ -1,9 +1,10 @@
 -- What was read and what was stored belong to one process, which goes on with it.
 use Rattle.std.proofs.Common.{Err, refl, ap}
 use Rattle.std.proofs.lemmas.Result.{err_from_is_err_and}
-use Rattle.process_player.proofs.Failing.{answers_on, goes_behind, handed, handed_reads, never_write, none_found, ok_no_write, silent_behind}
+use Rattle.process_player.proofs.Failing.{answers_on, goes_behind, handed, handed_reads, memory_no_read, never_write, no_read, none_found, ok_no_write, same_fault, silent_behind}
 use Rattle.process_player.proofs.Refusing.{memory_rejects, preamble_rejects, stored_rejects}
 use Rattle.process_player.proofs.StoredLaws.{has_begun, kept_agents, no_journal, own_head}
+use Rattle.process_player.proofs.Unbegun.{no_preamble, no_stored}
 use Rattle.process_player.proofs.beginning.begin.Goals as goal
 
 pub returns-in_err-preamble : goal.returns-in_err-preamble
@@ -14,6 +15,7 @@ returns-in_err-preamble g c = record {
       (preamble_rejects c.args.kind c.in_err-preamble.field-0.0 c.args.unread.now.bytes (g.S.Source.remaining c.args.source.now) c.in_err-preamble.ensures.refused);
   reads = handed_reads (handed (err_from_is_err_and c.from_residual.result c.from_residual.ensures.1)) c.in_err-preamble.ensures.reads;
   no_write = never_write (handed (err_from_is_err_and c.from_residual.result c.from_residual.ensures.1)) (λ h. c.in_err-preamble.ensures.no_write (ap Err h));
+  failed = same_fault (handed (err_from_is_err_and c.from_residual.result c.from_residual.ensures.1)) _ (λ is. no_preamble c.args.kind (c.in_err-preamble.ensures.failed is));
 }
 
 pub read_stored-requires-clause-at_hand : goal.read_stored-requires-clause-at_hand
@@ -28,6 +30,7 @@ returns-in-Err g c = record {
   refused = stored_rejects c.in-Err.fault c.in_ok-preamble.ensures.read c.in-Err.ensures.refused;
   reads = goes_behind c.in_ok-preamble.ensures.reads (handed_reads refl c.in-Err.ensures.reads);
   no_write = never_write refl (λ h. c.in-Err.ensures.no_write (ap Err h));
+  failed = λ is. no_stored c.in_ok-preamble.ensures.read (c.in-Err.ensures.failed is);
 }
 
 pub process_with-requires-clause-head : goal.process_with-requires-clause-head
@@ -42,6 +45,7 @@ returns-in-Some g c = record {
   refused = tt;
   reads = goes_behind c.in_ok-preamble.ensures.reads (answers_on _ c.in-Ok.ensures.reads);
   no_write = ok_no_write;
+  failed = tt;
 }
 
 pub returns-in-None : goal.returns-in-None
@@ -50,6 +54,7 @@ returns-in-None g c = record {
   refused = no_journal c.in_ok-preamble.ensures.read c.in-Ok.ensures.taken (rw c.in-None.is at c.in-Ok-process_with.ensures);
   reads = goes_behind c.in_ok-preamble.ensures.reads (silent_behind refl refl c.in-Ok.ensures.reads);
   no_write = never_write refl (λ h. cc);
+  failed = no_read refl (λ h. cc);
 }
 
 -- ---- for what the search finds too, and takes long for
@@ -63,4 +68,5 @@ returns-in_default g c = record {
   refused = memory_rejects c.args.kind c.args.unread.now.bytes (g.S.Source.remaining c.args.source.now);
   reads = goes_behind c.in_ok-preamble.ensures.reads (silent_behind refl refl c.in-Ok.ensures.reads);
   no_write = never_write refl (λ h. cc);
+  failed = memory_no_read refl;
 }

@@ -2,13 +2,13 @@
 use Rattle.std.proofs.lemmas.Result.{err_from_is_err_and}
 use Rattle.std.proofs.Common.{◌-◌, ◌≡◌, true, take, drop, length, refl, ap, ◌∙◌, sym, arith}
 use Rattle.metering_model.specs.BatchReading.{is_same}
-use Rattle.line_source.specs.Lines.{AreBetween}
+use Rattle.line_source.specs.Lines.{AreBetween, AreShort}
 use Rattle.line_source.proofs.Taking.{reads_on, up_to_on}
 use Rattle.process_player.specs.Starts.{heads_log, kind_word}
 use Rattle.process_player.proofs.AtHand.{at_hand_within}
 use Rattle.process_player.proofs.Between.{between_long}
-use Rattle.process_player.proofs.Ends.{absent, heads_found, no_first, no_second, other_first, other_second}
-use Rattle.process_player.proofs.Failing.{answer_reads, handed, none_found, reads_behind, silent_reads, source_others, source_reads}
+use Rattle.process_player.proofs.Ends.{absent, first_short, heads_found, no_first, no_second, other_first, other_second, second_short}
+use Rattle.process_player.proofs.Failing.{answer_reads, handed, memory_stops, none_found, reads_behind, silent_reads, source_reads, source_stops}
 use Rattle.process_player.proofs.preambles.heads_end.Given as given
 use Rattle.process_player.proofs.preambles.heads_end.Goals.{In-Lines, In-Lines-2, In-Ok}
 use Rattle.process_player.proofs.preambles.heads_end.Goals as goal
@@ -111,7 +111,8 @@ returns-in_err-first g c = record {
   within = none_found (handed (err_from_is_err_and c.from_residual.result c.from_residual.ensures.1)) _;
   block = c.in_err-first.ensures.block;
   reads = source_reads (handed (err_from_is_err_and c.from_residual.result c.from_residual.ensures.1)) c.in_err-first.ensures.reads;
-  others = source_others (handed (err_from_is_err_and c.from_residual.result c.from_residual.ensures.1)) c.in_err-first.ensures.reads;
+  others = source_stops (AreShort 0 1 16_777_216) c.args.unread.now.bytes c.lines_end_within.new.unread.bytes c.in_err-first.field-0.0 (handed (err_from_is_err_and c.from_residual.result c.from_residual.ensures.1)) c.in_err-first.ensures.reads
+      c.in_err-first.ensures.stopped (λ few. first_short c.lines_end_within.new.unread.bytes few.0);
 }
 
 pub returns-in_err-both : goal.returns-in_err-both
@@ -121,7 +122,9 @@ returns-in_err-both g c = record {
   within = none_found (handed (err_from_is_err_and c.from_residual-in_err-both.result c.from_residual-in_err-both.ensures.1)) _;
   block = up_to_on 16_777_216 c.args.unread.now.bytes c.lines_end_within.new.unread.bytes c.lines_end_within-2.new.unread.bytes c.in_ok-first.ensures.block c.in_err-both.ensures.block;
   reads = reads_behind c.in_ok-first.ensures.reads (source_reads (handed (err_from_is_err_and c.from_residual-in_err-both.result c.from_residual-in_err-both.ensures.1)) c.in_err-both.ensures.reads);
-  others = source_others (handed (err_from_is_err_and c.from_residual-in_err-both.result c.from_residual-in_err-both.ensures.1)) c.in_err-both.ensures.reads;
+  others = source_stops (AreShort c.in-Lines.first 1 16_777_216) c.lines_end_within.new.unread.bytes c.lines_end_within-2.new.unread.bytes c.in_err-both.field-0.0
+      (handed (err_from_is_err_and c.from_residual-in_err-both.result c.from_residual-in_err-both.ensures.1)) c.in_err-both.ensures.reads c.in_err-both.ensures.stopped
+      (λ few. second_short c.args.kind (first g (goal.at.returns-in_err-both g c).In-Lines) c.in_err-both.ensures.takes few.0);
 }
 
 pub returns-in_default : goal.returns-in_default
@@ -142,5 +145,5 @@ returns-in_default-heads_log g c = record {
   within = tt;
   block = up_to_on 16_777_216 c.args.unread.now.bytes c.lines_end_within.new.unread.bytes c.lines_end_within-2.new.unread.bytes c.in_ok-first.ensures.block c.in_ok-both.ensures.block;
   reads = reads_behind c.in_ok-first.ensures.reads (silent_reads refl refl c.in_ok-both.ensures.reads);
-  others = tt;
+  others = memory_stops;
 }

@@ -5,8 +5,8 @@ use Rattle.std.proofs.lemmas.Result.{err_from_is_err_and}
 use Rattle.line_source.specs.Reading.{ReadsUpTo}
 use Rattle.line_source.proofs.Taking.{reads_on, up_to_on}
 use Rattle.process_player.specs.Inner.Fronts.{AreHeads, IsSection}
-use Rattle.process_player.proofs.Ends.{no_sheet, preamble_found}
-use Rattle.process_player.proofs.Failing.{answers_on, goes_behind, handed, handed_reads, none_found, same_fault}
+use Rattle.process_player.proofs.Ends.{issuer_short, no_sheet, preamble_found, sheet_short}
+use Rattle.process_player.proofs.Failing.{answers_on, goes_behind, handed, handed_reads, none_found, same_fault, stops_on}
 use Rattle.process_player.proofs.preambles.preamble_end.Given as given
 use Rattle.process_player.proofs.preambles.preamble_end.Goals.{After-section_end-2, In-Whole, In-Whole-2}
 use Rattle.process_player.proofs.preambles.preamble_end.Goals as goal
@@ -47,7 +47,9 @@ returns-in_err-judged g c = record {
   within = none_found (handed (err_from_is_err_and c.from_residual-in_err-judged.result c.from_residual-in_err-judged.ensures.1)) _;
   block = all_up_to g (goal.at.returns-in_err-judged g c).After-section_end-2;
   reads = goes_behind c.in_ok-head.ensures.reads (goes_behind c.in_ok-sheet.ensures.reads (handed_reads (handed (err_from_is_err_and c.from_residual-in_err-judged.result c.from_residual-in_err-judged.ensures.1)) c.in_err-judged.ensures.reads));
-  others = same_fault (handed (err_from_is_err_and c.from_residual-in_err-judged.result c.from_residual-in_err-judged.ensures.1)) _ c.in_err-judged.ensures.others;
+  others = let at = goal.at.returns-in_err-judged g c in
+      same_fault (handed (err_from_is_err_and c.from_residual-in_err-judged.result c.from_residual-in_err-judged.ensures.1)) _
+      (stops_on (issuer_short c.args.kind (heads_there g at.In-Whole) c.in_ok-sheet.ensures.takes (sheet_there g at.In-Whole-2) c.section_end-2.ensures.takes) c.in_err-judged.ensures.others);
 }
 
 pub returns : goal.returns
@@ -99,7 +101,8 @@ returns-in_err-sheet g c = record {
   within = none_found (handed (err_from_is_err_and c.from_residual-in_err-sheet.result c.from_residual-in_err-sheet.ensures.1)) _;
   block = up_to_on 16_777_216 c.args.unread.now.bytes c.heads_end.new.unread.bytes c.section_end.new.unread.bytes c.in_ok-head.ensures.block c.in_err-sheet.ensures.block;
   reads = goes_behind c.in_ok-head.ensures.reads (handed_reads (handed (err_from_is_err_and c.from_residual-in_err-sheet.result c.from_residual-in_err-sheet.ensures.1)) c.in_err-sheet.ensures.reads);
-  others = same_fault (handed (err_from_is_err_and c.from_residual-in_err-sheet.result c.from_residual-in_err-sheet.ensures.1)) _ c.in_err-sheet.ensures.others;
+  others = same_fault (handed (err_from_is_err_and c.from_residual-in_err-sheet.result c.from_residual-in_err-sheet.ensures.1)) _
+      (stops_on (sheet_short c.args.kind (heads_there g (goal.at.returns-in_err-sheet g c).In-Whole) c.in_err-sheet.ensures.takes) c.in_err-sheet.ensures.others);
 }
 
 pub section_end-requires-2-clause-read : goal.section_end-requires-2-clause-read

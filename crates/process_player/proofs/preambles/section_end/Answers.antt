@@ -2,12 +2,12 @@
 use Rattle.std.proofs.lemmas.Result.{err_from_is_err_and}
 use Rattle.std.proofs.Common.{◌≡◌, ◌+◌, ◌-◌, ◌≤◌, Some, take, drop, length, sym, ap, ◌∙◌, arith}
 use Rattle.input_sections.specs.Sections.{number_behind}
-use Rattle.line_source.specs.Lines.{AreBetween}
+use Rattle.line_source.specs.Lines.{AreBetween, AreShort}
 use Rattle.line_source.proofs.Taking.{reads_on, up_to_on}
 use Rattle.process_player.proofs.AtHand.{at_hand_within}
 use Rattle.process_player.proofs.Between.{between_long}
-use Rattle.process_player.proofs.Ends.{absent, none_opens, not_said, section_found, too_few}
-use Rattle.process_player.proofs.Failing.{answer_reads, handed, none_found, reads_behind, source_others, source_reads, still_there}
+use Rattle.process_player.proofs.Ends.{absent, none_opens, not_said, opening_short, section_found, section_still_short, too_few}
+use Rattle.process_player.proofs.Failing.{answer_reads, handed, none_found, reads_behind, source_reads, source_stops, still_there}
 use Rattle.process_player.proofs.preambles.section_end.Given as given
 use Rattle.process_player.proofs.preambles.section_end.Goals.{In-Lines, In-Some}
 use Rattle.process_player.proofs.preambles.section_end.Goals as goal
@@ -84,7 +84,8 @@ returns-in_err-opening g c = record {
   within = none_found (handed (err_from_is_err_and c.from_residual.result c.from_residual.ensures.1)) _;
   block = c.in_err-opening.ensures.block;
   reads = source_reads (handed (err_from_is_err_and c.from_residual.result c.from_residual.ensures.1)) c.in_err-opening.ensures.reads;
-  others = source_others (handed (err_from_is_err_and c.from_residual.result c.from_residual.ensures.1)) c.in_err-opening.ensures.reads;
+  others = source_stops (AreShort c.args.from 1 16_777_216) c.args.unread.now.bytes c.lines_end_within.new.unread.bytes c.in_err-opening.field-0.0 (handed (err_from_is_err_and c.from_residual.result c.from_residual.ensures.1)) c.in_err-opening.ensures.reads
+      c.in_err-opening.ensures.stopped (λ few. opening_short c.args.word.now c.args.most c.args.from c.lines_end_within.new.unread.bytes few.0);
 }
 
 pub returns-in_default : goal.returns-in_default
@@ -114,5 +115,9 @@ returns-in_err-end g c = record {
   within = none_found (handed (err_from_is_err_and c.from_residual-in_err-end.result c.from_residual-in_err-end.ensures.1)) _;
   block = up_to_on 16_777_216 c.args.unread.now.bytes c.lines_end_within.new.unread.bytes c.lines_end_within-2.new.unread.bytes c.in_ok-opening.ensures.block c.in_err-end.ensures.block;
   reads = reads_behind c.in_ok-opening.ensures.reads (source_reads (handed (err_from_is_err_and c.from_residual-in_err-end.result c.from_residual-in_err-end.ensures.1)) c.in_err-end.ensures.reads);
-  others = source_others (handed (err_from_is_err_and c.from_residual-in_err-end.result c.from_residual-in_err-end.ensures.1)) c.in_err-end.ensures.reads;
+  others = let said = says g (goal.at.returns-in_err-end g c).In-Some ∙ ap Some (sym c.from-count.ensures) in
+      let one = line_there g (goal.at.returns-in_err-end g c).In-Lines in
+      source_stops (AreShort c.in-Lines.opening c.from-count.result 16_777_216) c.lines_end_within.new.unread.bytes c.lines_end_within-2.new.unread.bytes c.in_err-end.field-0.0
+      (handed (err_from_is_err_and c.from_residual-in_err-end.result c.from_residual-in_err-end.ensures.1)) c.in_err-end.ensures.reads c.in_err-end.ensures.stopped
+      (λ few. section_still_short one c.args.word.now c.args.most c.from-count.result said c.in_err-end.ensures.takes few.0);
 }

@@ -1,9 +1,10 @@
 use Rattle.std.proofs.Common.{rules, refl, [], Err, ap, arith, length, subst, inl, inr}
 use Rattle.process_player.specs.Inner.Reading.{HasBegun}
 use Rattle.process_player.proofs.Commands.{ends_of, on_err, on_ok, runs_of, torn_later_of}
-use Rattle.process_player.proofs.Failing.{one_fault}
+use Rattle.process_player.proofs.Failing.{memory_no_read, one_fault}
 use Rattle.process_player.proofs.Refusing.{known_input, serving_rejects}
 use Rattle.process_player.proofs.Stopping.{answer_rejects, refusal_no_write}
+use Rattle.process_player.proofs.Unbegun.{begins_none}
 use Rattle.process_player.proofs.serving.process_text.Given as given
 use Rattle.process_player.proofs.serving.process_text.Goals.{After-drop-unread-inside-in-Ok-write_begun}
 use Rattle.process_player.proofs.serving.process_text.Goals as goal
@@ -38,7 +39,7 @@ pub returns-in-Err : goal.returns-in-Err
 returns-in-Err g c = record {
   done = tt;
   kept = λ it. refl;
-  whole = λ other. inl refl;
+  whole = λ other. inl (record { unwritten = refl; unbegun = λ is. begins_none c.new-unread.ensures.bytes (c.in-Err.ensures.failed is) });
   torn = λ is. absurd (c.in-Err.ensures.no_write (ap Err (one_fault is)));
   refused = known_input _ _ _ _ c.new-unread.ensures.bytes c.in-Err.ensures.refused;
   calls = search rules;
@@ -50,7 +51,7 @@ pub returns : goal.returns
 returns g c = record {
   done = tt;
   kept = λ it. (c.in-Err-write_begun.ensures.others (refusal_no_write it)).1;
-  whole = λ other. inl (c.in-Err-write_begun.ensures.others other).1;
+  whole = λ other. let told = c.in-Err-write_begun.ensures.others other in inl (record { unwritten = told.1; unbegun = memory_no_read told.0 });
   torn = search rules;
   refused = answer_rejects c.args.kind _ c.in-Err-write_begun.fault (g.R.Source.remaining c.args.reader.now) c.in-Err-write_begun.ensures.others;
   calls = search rules;
