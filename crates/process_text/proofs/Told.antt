@@ -1,6 +1,7 @@
 -- What stands behind a text where a process that stays as it is answers.
-use Rattle.std.proofs.Common.{◌≡◌, ℕ, List, [], ◌∷◌, ◌++◌, ◌+◌, refl, sym, ap, ap₂, subst, ◌∙◌}
-use Rattle.std.specs.Prelude.{codes, decimal, Option, None, Some, Result, Ok, Err, IfOk, IfSome, MatchOption}
+use Rattle.std.proofs.Common.{◌≡◌, ℕ, List, [], ◌∷◌, ◌++◌, ◌+◌, cond, Bor, refl, sym, ap, ap₂, subst, ◌∙◌}
+use Rattle.std.specs.Prelude.{codes, decimal, Option, None, Some, Result, Ok, Err, IfOk, IfSome, MatchOption, OnOk, is_ok}
+use Rattle.std.specs.Option.{option_copied, option_map}
 use Rattle.std.specs.Arc.{arc_value}
 use Rattle.std.proofs.lemmas.List.{append_assoc}
 use Rattle.metering_model.specs.Batch.{Batch, batch_text, line_of_fields}
@@ -11,7 +12,9 @@ use Rattle.metering_model.specs.World as world
 use Rattle.metering_model.specs.declared.Refusal.TheVariants.{Missing}
 use Rattle.process_laws.specs.LocalSteps as model
 use Rattle.packet_text.specs.PacketText.{lines_of_batch}
+use Rattle.packet_text.proofs.Pieces.{then_ok}
 use Rattle.log_text.specs.LogText.{Increment, Takes, section_line}
+use Rattle.log_text.proofs.WrittenLines.{then_put}
 use Rattle.group_events.specs.Batches.{batch_of}
 use Rattle.group_process.specs.Added.{AddsJust, increment_after}
 use Rattle.group_process.specs.Answers.{Does, begun_answer, exported_answer, refusal_of, taken_answer}
@@ -21,9 +24,12 @@ use Rattle.group_process.specs.declared.beginning.Begun.{Begun}
 use Rattle.group_process.specs.declared.refusals.ProcessRefusal.{ProcessRefusal}
 use Rattle.group_process.specs.declared.taking.Taken.{Taken}
 use Rattle.group_process.specs.Selves.{NodeSelf, AgentSelf, kept_of_node, kept_of_agent}
-use Rattle.process_text.specs.Answers.{added_text, addressee, answer_text, packet_sent_text, process_refusal_text, refused_text, words_text}
-use Rattle.process_text.specs.Requests.{AsksNode, AsksAgent}
-use Rattle.process_text.specs.Inner.Written.{AppendsNode, AppendsAgent}
+use Rattle.process_text.specs.declared.requests.NodeRequest.{NodeRequest as RequestOfNode}
+use Rattle.process_text.specs.declared.requests.AgentRequest.{AgentRequest as RequestOfAgent}
+use Rattle.process_text.specs.Answers.{AnswersAgent, AnswersNode, added_text, addressee, answer_text, packet_sent_text, refused_text, words_text}
+use Rattle.process_text.specs.Requests.{AsksAgent, AsksNode, NoAgentCommand, NoNodeCommand, NoPacket, agent_request, node_request}
+use Rattle.process_text.specs.Inner.Read.{agent_request_of, node_request_of}
+use Rattle.process_text.specs.Inner.Written.{AppendsAgent, AppendsNode, given_text}
 
 -- ---- texts that are joined
 
@@ -46,10 +52,10 @@ pub line_put : (old one word : List ℕ) (n number : ℕ) → n ≡ number → o
 line_put old one word n number same put =
     ap (λ t. t ++ 10 ∷ []) (put ∙ ap (λ k. old ++ with_number word k) same) ∙ append_assoc old (with_number word number) (10 ∷ [])
 
--- a line above, and what stands below it
-pub below_put : (old above one two below : List ℕ) → one ≡ old ++ above → two ≡ one ++ 10 ∷ [] → two ++ below ≡ old ++ (line above ++ below)
-below_put old above one two below first second =
-    ap (λ t. t ++ below) (second ∙ ap (λ t. t ++ 10 ∷ []) first ∙ append_assoc old above (10 ∷ [])) ∙ append_assoc old (line above) below
+-- what ends a line and stands below it
+pub below_put : (old one two above below : List ℕ) → one ≡ old ++ above → two ≡ one ++ (10 ∷ below) → two ≡ old ++ (line above ++ below)
+below_put old one two above below first second =
+    second ∙ ap (λ t. t ++ 10 ∷ below) first ∙ append_assoc old above (10 ∷ below) ∙ ap (λ t. old ++ t) (sym (append_assoc above (10 ∷ []) below))
 
 -- a word that says that a packet was taken, and the period that was learned by it
 pub delivered_put : (old one two : List ℕ) (learned : Option ℕ) (n period : ℕ) → learned ≡ Some period → n ≡ period
@@ -60,34 +66,35 @@ delivered_put old one two learned n period is same first second =
     ∙ append_assoc old (codes "delivered") (line (with_number (codes " learned ") period))
     ∙ ap (λ o. old ++ line (codes "delivered" ++ if_any (codes " learned ") o)) (sym is)
 
+-- three pieces, one behind the other
+pub three_put : (before one two three a b c : List ℕ) → one ≡ before ++ a → two ≡ one ++ b → three ≡ two ++ c → three ≡ before ++ (a ++ b ++ c)
+three_put before one two three a b c first second third =
+    third ∙ ap (λ t. t ++ c) second ∙ ap (λ t. t ++ b ++ c) first ∙ joined before a b c ∙ ap (λ t. before ++ t) (sym (append_assoc a b c))
+
 -- what a log gets, what is sent to all, and a line that ends with a number
 pub answer_put : (name name' : List ℕ) (added : Option Increment) (packet : world.Packet) (before one two three word : List ℕ) (number number' : ℕ)
     → one ≡ before ++ added_text added → two ≡ one ++ packet_sent_text name' None packet → three ≡ two ++ line (with_number word number')
     → name' ≡ name → number' ≡ number
     → three ≡ before ++ (added_text added ++ packet_sent_text name None packet ++ line (with_number word number))
 answer_put name name' added packet before one two three word number number' first second third is_name is_number =
-    let gets = added_text added in
-    let sent : List ℕ → List ℕ = λ n. packet_sent_text n None packet in
-    let told : ℕ → List ℕ = λ n. line (with_number word n) in
-    third ∙ ap (λ t. t ++ told number') second
-    ∙ ap (λ t. t ++ sent name' ++ told number') first
-    ∙ joined before gets (sent name') (told number') ∙ ap (λ t. before ++ t) (sym (append_assoc gets (sent name') (told number')))
-    ∙ ap₂ (λ n k. before ++ (gets ++ sent n ++ told k)) is_name is_number
+    let told : (name : List ℕ) (number : ℕ) → List ℕ = λ n k. added_text added ++ packet_sent_text n None packet ++ line (with_number word k) in
+    three_put before one two three (added_text added) (packet_sent_text name' None packet) (line (with_number word number')) first second third
+    ∙ ap₂ (λ n k. before ++ told n k) is_name is_number
 
 -- what stands above a file, of so many lines
 abbrev exported_line : (period lines : ℕ) → List ℕ
 exported_line period lines = with_number (codes "exported period ") period ++ with_number (codes " lines ") lines
 
-pub file_told : (s : world.Snapshot) (above file shown seen below old old' : List ℕ) (period lines : ℕ)
-    → old ≡ [] → old' ≡ [] → period ≡ s.period → file ≡ old' ++ file_of s → shown ≡ file → lines ≡ line_count shown
-    → above ≡ old ++ exported_line period lines → seen ≡ above → below ≡ file
-    → line seen ++ below ≡ reply_text (world.Exported s)
-file_told s above file shown seen below old old' period lines none none' of is_file is_shown count is_above is_seen is_below =
-    let whole : file ≡ file_of s = is_file ∙ ap (λ t. t ++ file_of s) none' in
+pub file_put : (s : world.Snapshot) (old one two none file shown below : List ℕ) (period lines : ℕ)
+    → none ≡ [] → file ≡ none ++ file_of s → shown ≡ file → lines ≡ line_count shown → period ≡ s.period
+    → one ≡ old ++ exported_line period lines → below ≡ file → two ≡ one ++ (10 ∷ below)
+    → two ≡ old ++ reply_text (world.Exported s)
+file_put s old one two none file shown below period lines empty is_file is_shown count of first is_below second =
+    let whole : file ≡ file_of s = is_file ∙ ap (λ t. t ++ file_of s) empty in
     let counted : lines ≡ line_count (file_of s) = count ∙ ap line_count (is_shown ∙ whole) in
-    let told : seen ≡ exported_line s.period (line_count (file_of s)) =
-    is_seen ∙ is_above ∙ ap (λ t. t ++ exported_line period lines) none ∙ ap₂ exported_line of counted in
-    ap₂ (λ a f. line a ++ f) told (is_below ∙ whole)
+    below_put old one two (exported_line period lines) below first second
+    ∙ ap (λ t. old ++ (line (exported_line period lines) ++ t)) (is_below ∙ whole)
+    ∙ ap₂ (λ p n. old ++ (line (exported_line p n) ++ file_of s)) of counted
 
 pub batch_put : (old group one two bytes : List ℕ) (b : Batch) (lines : ℕ) → lines ≡ lines_of_batch b → bytes ≡ batch_text b
     → one ≡ old ++ section_line (codes "send " ++ codes "all" ++ codes " ") (1 + lines)
@@ -223,86 +230,96 @@ agent_keeps a before text same = record {
 
 -- ---- a batch is sent once more
 
--- what is said where a batch is held, or is not
-abbrev given_text : List ℕ → Option Batch → (agent seq : ℕ) → List ℕ
-given_text name (Some b) agent seq = packet_sent_text name None (world.CarriesBatch b) ++ line (codes "sent")
-given_text name None agent seq = refused_text (process_refusal_text (model.OfModel (Missing agent seq)))
+-- the batch, and that it was sent
+pub sent_put : (name before one : List ℕ) (o : Option Batch) (b : Batch) (agent seq : ℕ) → o ≡ Some b
+    → one ≡ before ++ packet_sent_text name None (world.CarriesBatch b) → one ++ line (codes "sent") ≡ before ++ given_text name o agent seq
+sent_put name before one o b agent seq is put =
+    ap (λ t. t ++ line (codes "sent")) put ∙ append_assoc before (packet_sent_text name None (world.CarriesBatch b)) (line (codes "sent"))
+    ∙ ap (λ x. before ++ given_text name x agent seq) (sym is)
 
 abbrev given : Option Batch → (agent seq : ℕ) → model.Answer
 given (Some b) agent seq = record { words = model.HasSent; sends = Some (world.CarriesBatch b) }
 given None agent seq = model.refusing (model.OfModel (Missing agent seq))
 
-sent_there : (h : Holding) (agent seq : ℕ) (b : Batch) → held h agent seq ≡ Some b → model.sending_held h agent seq ≡ given (Some b) agent seq
-sent_there h agent seq b there = rw (there, model.sending_held) refl
+given_told : (name : List ℕ) (o : Option Batch) (agent seq : ℕ) → given_text name o agent seq ≡ answer_text name (λ sent. None) None (given o agent seq)
+given_told name None agent seq = refl
+given_told name (Some b) agent seq = refl
 
-sent_absent : (h : Holding) (agent seq : ℕ) → held h agent seq ≡ None → model.sending_held h agent seq ≡ given None agent seq
-sent_absent h agent seq absent = rw (absent, model.sending_held) refl
+-- what is lent is what is held
+abbrev batch_lent : Option (Bor (List ℕ)) → Option Batch
+batch_lent o = option_map batch_of (option_copied o)
 
--- the batch, and that it was sent
-gives : (name name' before one after : List ℕ) (b : Batch) → name' ≡ name → one ≡ before ++ packet_sent_text name' None (world.CarriesBatch b)
-    → after ≡ one ++ line (codes "sent") → after ≡ before ++ (packet_sent_text name None (world.CarriesBatch b) ++ line (codes "sent"))
-gives name name' before one after b is_name first second =
-    second ∙ ap (λ t. t ++ line (codes "sent")) (first ∙ ap (λ n. before ++ packet_sent_text n None (world.CarriesBatch b)) is_name)
-    ∙ append_assoc before (packet_sent_text name None (world.CarriesBatch b)) (line (codes "sent"))
+abbrev IsLent : Option Batch → Option (Bor (List ℕ)) → Type 0
+IsLent h o = MatchOption o (h ≡ None) (λ b. h ≡ Some (batch_of b.now))
 
-pub node_gives : (n : NodeSelf) (agent seq : ℕ) (name before one after : List ℕ) (b : Batch) → held n.node.kept.holding agent seq ≡ Some b
-    → name ≡ n.group.name → one ≡ before ++ packet_sent_text name None (world.CarriesBatch b) → after ≡ one ++ line (codes "sent")
+sent_as_lent : (h : Holding) (agent seq : ℕ) (o : Option (Bor (List ℕ))) → IsLent (held h agent seq) o → model.sending_held h agent seq ≡ given (batch_lent o) agent seq
+sent_as_lent h agent seq None absent = rw (absent, model.sending_held) refl
+sent_as_lent h agent seq (Some b) there = rw (there, model.sending_held) refl
+
+pub node_gives : (n : NodeSelf) (agent seq : ℕ) (o : Option (Bor (List ℕ))) (name before after : List ℕ) → IsLent (held n.node.kept.holding agent seq) o
+    → name ≡ n.group.name → after ≡ before ++ given_text name (batch_lent o) agent seq
     → AppendsNode (AsksNode (model.SendBatch agent seq)) n n before after
-node_gives n agent seq name before one after b there is_name first second = record {
-  said = given_text n.group.name (Some b) agent seq;
+node_gives n agent seq o name before after lent is_name put = record {
+  said = given_text n.group.name (batch_lent o) agent seq;
   answers = record {
-    answer = given (Some b) agent seq;
-    does = record { does = ap (λ a. model.unmoved a n.node) (sent_there n.node.kept.holding agent seq b there); group = refl; number = refl };
+    answer = given (batch_lent o) agent seq;
+    does = record { does = ap (λ a. model.unmoved a n.node) (sent_as_lent n.node.kept.holding agent seq o lent); group = refl; number = refl };
     added = None;
     adds = refl;
-    text = refl;
+    text = given_told n.group.name (batch_lent o) agent seq;
   };
-  joined = gives n.group.name name before one after b is_name first second;
+  joined = put ∙ ap (λ g. before ++ given_text g (batch_lent o) agent seq) is_name;
 }
 
-pub node_lacks : (n : NodeSelf) (agent seq : ℕ) (before after : List ℕ) → held n.node.kept.holding agent seq ≡ None
-    → after ≡ before ++ refused_text (process_refusal_text (model.OfModel (Missing agent seq)))
-    → AppendsNode (AsksNode (model.SendBatch agent seq)) n n before after
-node_lacks n agent seq before after absent put = record {
-  said = given_text n.group.name None agent seq;
-  answers = record {
-    answer = given None agent seq;
-    does = record { does = ap (λ a. model.unmoved a n.node) (sent_absent n.node.kept.holding agent seq absent); group = refl; number = refl };
-    added = None;
-    adds = refl;
-    text = refl;
-  };
-  joined = put;
-}
-
-pub agent_gives : (a : AgentSelf) (seq : ℕ) (name before one after : List ℕ) (b : Batch) → held a.journal a.number seq ≡ Some b
-    → name ≡ a.group.name → one ≡ before ++ packet_sent_text name None (world.CarriesBatch b) → after ≡ one ++ line (codes "sent")
+pub agent_gives : (a : AgentSelf) (number seq : ℕ) (o : Option (Bor (List ℕ))) (name before after : List ℕ) → IsLent (held a.journal a.number seq) o
+    → name ≡ a.group.name → number ≡ a.number → after ≡ before ++ given_text name (batch_lent o) number seq
     → AppendsAgent (AsksAgent (model.SendAgain seq)) a a before after
-agent_gives a seq name before one after b there is_name first second = record {
-  said = given_text a.group.name (Some b) a.number seq;
+agent_gives a number seq o name before after lent is_name is_number put = record {
+  said = given_text a.group.name (batch_lent o) a.number seq;
   answers = record {
-    answer = given (Some b) a.number seq;
-    does = record { does = ap (λ said. model.unmoved_journal said a.journal) (sent_there a.journal a.number seq b there); group = refl; number = refl };
+    answer = given (batch_lent o) a.number seq;
+    does = record { does = ap (λ said. model.unmoved_journal said a.journal) (sent_as_lent a.journal a.number seq o lent); group = refl; number = refl };
     added = None;
     adds = refl;
-    text = refl;
+    text = given_told a.group.name (batch_lent o) a.number seq;
   };
-  joined = gives a.group.name name before one after b is_name first second;
+  joined = put ∙ ap₂ (λ g k. before ++ given_text g (batch_lent o) k seq) is_name is_number;
 }
 
-pub agent_lacks : {B : Type 0} (There : B → Type 0) (a : AgentSelf) (seq number : ℕ) (before after : List ℕ) (o : Option B)
-    → MatchOption o (held a.journal a.number seq ≡ None) There → o ≡ None → number ≡ a.number
-    → after ≡ before ++ refused_text (process_refusal_text (model.OfModel (Missing number seq)))
-    → AppendsAgent (AsksAgent (model.SendAgain seq)) a a before after
-agent_lacks There a seq number before after (Some b) absent none same put = absurd (cc)
-agent_lacks There a seq number before after None absent none same put = record {
-  said = given_text a.group.name None a.number seq;
-  answers = record {
-    answer = given None a.number seq;
-    does = record { does = ap (λ said. model.unmoved_journal said a.journal) (sent_absent a.journal a.number seq absent); group = refl; number = refl };
-    added = None;
-    adds = refl;
-    text = refl;
-  };
-  joined = put ∙ ap (λ n. before ++ refused_text (process_refusal_text (model.OfModel (Missing n seq)))) same;
-}
+-- ---- what is no packet, or no command
+
+pub foreign_told : {A E : Type 0} (r : Result A E) (n : NodeSelf) (before after : List ℕ) → after ≡ cond (is_ok r) (before ++ codes "refused G16\n") before
+    → OnOk r (AppendsNode NoPacket n n before after)
+foreign_told r n before after put =
+    then_ok r _ _ (λ told. record { said = refused_text (codes "G16"); answers = (refl, refl); joined = told })
+    (then_put r before after (codes "refused G16\n") (before ++ refused_text (codes "G16")) put refl)
+
+pub node_commanded : {A E : Type 0} (r : Result A E) (n : NodeSelf) (before after : List ℕ) → after ≡ cond (is_ok r) (before ++ codes "refused L6\n") before
+    → OnOk r (AppendsNode NoNodeCommand n n before after)
+node_commanded r n before after put =
+    then_ok r _ _ (λ told. record { said = refused_text (codes "L6"); answers = (refl, refl); joined = told })
+    (then_put r before after (codes "refused L6\n") (before ++ refused_text (codes "L6")) put refl)
+
+pub agent_commanded : {A E : Type 0} (r : Result A E) (a : AgentSelf) (before after : List ℕ) → after ≡ cond (is_ok r) (before ++ codes "refused L6\n") before
+    → OnOk r (AppendsAgent NoAgentCommand a a before after)
+agent_commanded r a before after put =
+    then_ok r _ _ (λ told. record { said = refused_text (codes "L6"); answers = (refl, refl); joined = told })
+    (then_put r before after (codes "refused L6\n") (before ++ refused_text (codes "L6")) put refl)
+
+-- ---- what stands behind nothing is all
+
+pub node_answered : {A E : Type 0} (r : Result A E) (found asked : RequestOfNode) (line below : List ℕ) (old new : NodeSelf) (before after : List ℕ)
+    → ((b : List ℕ) → node_request_of b found ≡ node_request line b) → found ≡ asked → before ≡ []
+    → OnOk r (AppendsNode (node_request_of below asked) old new before after) → OnOk r (AnswersNode (node_request line below) old new after)
+node_answered r found asked line below old new before after by is none appends =
+    then_ok r _ _ (λ a. subst (λ said. AnswersNode (node_request line below) old new said) (sym (a.joined ∙ ap (λ t. t ++ a.said) none))
+    (subst (λ q. AnswersNode q old new a.said) (ap (node_request_of below) (sym is) ∙ by below) a.answers))
+    appends
+
+pub agent_answered : {A E : Type 0} (r : Result A E) (found asked : RequestOfAgent) (line below : List ℕ) (old new : AgentSelf) (before after : List ℕ)
+    → ((b : List ℕ) → agent_request_of b found ≡ agent_request line b) → found ≡ asked → before ≡ []
+    → OnOk r (AppendsAgent (agent_request_of below asked) old new before after) → OnOk r (AnswersAgent (agent_request line below) old new after)
+agent_answered r found asked line below old new before after by is none appends =
+    then_ok r _ _ (λ a. subst (λ said. AnswersAgent (agent_request line below) old new said) (sym (a.joined ∙ ap (λ t. t ++ a.said) none))
+    (subst (λ q. AnswersAgent q old new a.said) (ap (agent_request_of below) (sym is) ∙ by below) a.answers))
+    appends

@@ -1,7 +1,7 @@
 //! Pieces of an answer, written as lines of text.
 
 ghost use Rattle.std.specs.Prelude.{◌≡◌, ◌≢◌, ◌∷◌, [], ◌++◌, None, codes, decimal, OnOk};
-ghost use Rattle.std.specs.Option.{option_map};
+ghost use Rattle.std.specs.Option.{option_copied, option_map};
 ghost use Rattle.metering_model.specs.Transcript.{if_any, line, reply_text, with_number};
 ghost use Rattle.metering_model.specs.Batch.{line_of_fields};
 ghost use Rattle.metering_model.specs.World as world;
@@ -11,6 +11,7 @@ ghost use Rattle.log_text.specs.Increments.{increment_of};
 ghost use Rattle.log_text.specs.LogText.{lines_of_increment, section_line};
 ghost use Rattle.group_process.specs.Answers.{refusal_of};
 ghost use Rattle.process_text.specs.Answers.{added_text, addressee, addressee_text, asker, lines_of_packet, packet_sent_text, process_refusal_text, refused_text};
+ghost use Rattle.process_text.specs.Inner.Written.{given_text};
 
 use answer_words::replies::{put_exported, put_kept, put_refused};
 use byte_text::{line_count, put_numbered};
@@ -19,11 +20,12 @@ use group_events::{OwnedBatch, Period, Snapshot};
 use group_node::Packet;
 use group_process::ProcessRefusal;
 use log_text::{Increment, put_increment};
+use metering_model::Refusal;
 use packet_text::put_packet;
 use std::alloc::{AllocError, Global};
 
 /// What is told where a batch was sent once more.
-pub(crate) const SENT: &[u8] = b"sent\n";
+const SENT: &[u8] = b"sent\n";
 /// What is told where what should be a packet is none of the group.
 pub(crate) const FOREIGN: &[u8] = b"refused G16\n";
 /// What is told where a line is no command.
@@ -109,7 +111,6 @@ fn put_to(text: &mut Vec<u8>, to: Option<u32>, lines: u32) -> Result<(), AllocEr
 }
 
 /// Appends the line of a packet that carries a batch of so many lines.
-
 fn put_batch_line(text: &mut Vec<u8>, group: &[u8], lines: u32) -> Result<(), AllocError>
     ensures { OnOk result (text.new.items ≡ text.old.items
         ++ line_of_fields (codes "P1" ∷ group.now ∷ codes "batch" ∷ decimal lines ∷ [])) }
@@ -182,14 +183,10 @@ pub(crate) fn put_delivered(text: &mut Vec<u8>, learned: Option<Period>) -> Resu
     }
 }
 
-/// Appends a line, and what stands below it.
-fn put_below(text: &mut Vec<u8>, above: &[u8], below: &[u8]) -> Result<(), AllocError>
-    ensures { OnOk result
-        (text.new.items ≡ text.old.items ++ (line above.now ++ below.now)) }
+/// Ends a line, and appends what stands below it.
+fn put_below(text: &mut Vec<u8>, below: &[u8]) -> Result<(), AllocError>
+    ensures { OnOk result (text.new.items ≡ text.old.items ++ (codes "\n" ++ below.now)) }
 {
-    let Ok(()) = text.extend_from_slice(above) else {
-        return Err(AllocError);
-    };
     let Ok(()) = text.extend_from_slice(b"\n") else {
         return Err(AllocError);
     };
@@ -205,14 +202,14 @@ pub(crate) fn put_file(
     ensures { OnOk result (text.new.items
         ≡ text.old.items ++ reply_text (world.Exported snapshot.now)) }
 {
-    let (mut above, mut file) = (Vec::new(alloc), Vec::new(alloc));
+    let mut file = Vec::new(alloc);
     let Ok(()) = snapshot.put_csv(alloc, &mut file) else {
         return Err(AllocError);
     };
-    let Ok(()) = put_exported(&mut above, snapshot.period(), line_count(&file)) else {
+    let Ok(()) = put_exported(text, snapshot.period(), line_count(&file)) else {
         return Err(AllocError);
     };
-    put_below(text, &above, &file)
+    put_below(text, &file)
 }
 
 /// Appends a kept text, and above it how many lines it has.
@@ -223,10 +220,7 @@ pub(crate) fn put_kept_text(text: &mut Vec<u8>, kept: &[u8]) -> Result<(), Alloc
     let Ok(()) = put_kept(text, line_count(kept)) else {
         return Err(AllocError);
     };
-    let Ok(()) = text.push(b'\n') else {
-        return Err(AllocError);
-    };
-    text.extend_from_slice(kept)
+    put_below(text, kept)
 }
 
 /// Appends why a process does not do what it is asked.
@@ -236,9 +230,36 @@ pub(crate) fn put_refusal(text: &mut Vec<u8>, why: ProcessRefusal) -> Result<(),
 {
     match why {
         ProcessRefusal::OfModel(refusal) => {
-            put_refused(text, refusal)?;
+            let Ok(()) = put_refused(text, refusal) else {
+                return Err(AllocError);
+            };
             text.extend_from_slice(b"\n")
         }
         ProcessRefusal::Unfit => text.extend_from_slice(b"refused G17\n"),
+    }
+}
+
+/// Appends a batch that is held, which is sent once more, or that it is missing.
+pub(crate) fn put_given(
+    text: &mut Vec<u8>,
+    group: &[u8],
+    held: Option<&OwnedBatch>,
+    agent: u8,
+    seq: u32,
+) -> Result<(), AllocError>
+    ensures { OnOk result (text.new.items ≡ text.old.items
+        ++ given_text group.now (option_map batch_of (option_copied held.entry)) agent seq) }
+{
+    match held {
+        Some(batch) => {
+            let Ok(()) = put_batch(text, group, batch) else {
+                return Err(AllocError);
+            };
+            text.extend_from_slice(SENT)
+        }
+        None => put_refusal(
+            text,
+            ProcessRefusal::OfModel(Refusal::Missing { agent, seq }),
+        ),
     }
 }

@@ -6,21 +6,40 @@ ghost use Rattle.process_laws.specs.LocalSteps.{BeginBallot, ExportPeriod, HasBe
 ghost use Rattle.group_node.specs.Packets.{packet_of};
 ghost use Rattle.group_process.specs.Added.{increment_after};
 ghost use Rattle.group_process.specs.Selves.{kept_of_node};
-ghost use Rattle.process_text.specs.Answers.{AnswersNode, addressee, answer_text};
-ghost use Rattle.process_text.specs.Requests.{AsksNode, node_request};
-ghost use Rattle.process_text.specs.Inner.Read.{node_request_of};
+ghost use Rattle.packet_text.specs.PacketText.{packet_in};
+ghost use Rattle.process_text.specs.Answers.{AnswersNode, addressee, answer_text, sent_text};
+ghost use Rattle.process_text.specs.Requests.{AsksNode, node_request, packet_request};
 ghost use Rattle.process_text.specs.Inner.Written.{AppendsNode};
 
 use crate::answers::{
-    FOREIGN, NO_COMMAND, SENT, addressee, put_added, put_batch, put_delivered, put_file,
-    put_kept_text, put_line, put_refusal, put_sent,
+    FOREIGN, NO_COMMAND, addressee, put_added, put_delivered, put_file, put_given, put_kept_text,
+    put_line, put_refusal, put_sent,
 };
 use crate::requests::{NodeRequest, node_request};
 use group_node::Packet;
-use group_process::{Begun, NodeProcess, ProcessRefusal, Taken};
-use metering_model::Refusal;
-use packet_text::GroupPacket;
+use group_process::{Begun, Group, NodeProcess, Taken};
+use packet_text::{GroupPacket, read_packet};
 use std::alloc::{AllocError, Global};
+
+/// Appends what a node sends for a packet that it took, if anything.
+fn put_sends(
+    text: &mut Vec<u8>,
+    group: &Group,
+    taken: &Packet,
+    sends: &Option<Packet>,
+) -> Result<(), AllocError>
+    ensures { OnOk result (text.new.items ≡ text.old.items
+        ++ sent_text group.now.name (addressee group.now.voters (packet_of taken.now))
+        (option_map packet_of sends.now)) }
+{
+    match sends {
+        Some(sent) => {
+            let (voters, _, _) = group.sizes();
+            put_sent(text, group.name(), addressee(voters, taken, sent), sent)
+        }
+        None => Ok(()),
+    }
+}
 
 /// Appends what came of a packet that a node took.
 fn put_taken(
@@ -37,19 +56,17 @@ fn put_taken(
           sends = option_map packet_of taken.now.sends;
         })) }
 {
-    put_added(text, node.increment(taken.added))?;
-    if let Some(sent) = &taken.sends {
-        let group = node.group();
-        let (voters, _, _) = group.sizes();
-        let Ok(()) = put_sent(text, group.name(), addressee(voters, packet, sent), sent) else {
-            return Err(AllocError);
-        };
-    }
+    let Ok(()) = put_added(text, node.increment(taken.added)) else {
+        return Err(AllocError);
+    };
+    let Ok(()) = put_sends(text, node.group(), packet, &taken.sends) else {
+        return Err(AllocError);
+    };
     put_delivered(text, taken.learned)
 }
 
 /// Has a node take a packet.
-fn take(
+fn take_packet(
     alloc: Global,
     node: &mut NodeProcess,
     handed: &GroupPacket,
@@ -65,6 +82,23 @@ fn take(
     }
 }
 
+/// Has a node take what stands below a line, where that is a packet.
+fn take(
+    alloc: Global,
+    node: &mut NodeProcess,
+    below: &[u8],
+    text: &mut Vec<u8>,
+) -> Result<(), AllocError>
+    ensures { OnOk result (AppendsNode (packet_request (packet_in below.now))
+        node.old node.new text.old.items text.new.items) }
+{
+    match read_packet(alloc, below) {
+        Ok(Some(handed)) => take_packet(alloc, node, &handed, text),
+        Ok(None) => text.extend_from_slice(FOREIGN),
+        Err(failed) => Err(failed),
+    }
+}
+
 /// Appends what came of a ballot that a node began.
 fn put_started(text: &mut Vec<u8>, node: &NodeProcess, begun: &Begun) -> Result<(), AllocError>
     ensures { OnOk result (text.new.items ≡ text.old.items
@@ -72,8 +106,12 @@ fn put_started(text: &mut Vec<u8>, node: &NodeProcess, begun: &Begun) -> Result<
         (increment_after begun.now.added (kept_of_node node.now))
         (record { words = HasBegun begun.now.ballot; sends = Some (packet_of begun.now.sends) })) }
 {
-    put_added(text, node.increment(begun.added))?;
-    put_sent(text, node.group().name(), None, &begun.sends)?;
+    let Ok(()) = put_added(text, node.increment(begun.added)) else {
+        return Err(AllocError);
+    };
+    let Ok(()) = put_sent(text, node.group().name(), None, &begun.sends) else {
+        return Err(AllocError);
+    };
     put_line(text, b"started ballot ", begun.ballot.number())
 }
 
@@ -117,47 +155,16 @@ fn keep(alloc: Global, node: &NodeProcess, text: &mut Vec<u8>) -> Result<(), All
 }
 
 /// Has a node send a batch once more.
-
 fn give(node: &NodeProcess, agent: u8, seq: u32, text: &mut Vec<u8>) -> Result<(), AllocError>
     ensures { OnOk result (AppendsNode (AsksNode (SendBatch agent seq))
         node.now node.now text.old.items text.new.items) }
 {
-    match node.held(agent, seq) {
-        Some(batch) => {
-            put_batch(text, node.group().name(), batch)?;
-            text.extend_from_slice(SENT)
-        }
-        None => put_refusal(
-            text,
-            ProcessRefusal::OfModel(Refusal::Missing { agent, seq }),
-        ),
-    }
+    put_given(text, node.group().name(), node.held(agent, seq), agent, seq)
 }
 
-/// Does what a node is asked, and appends what it answers.
-fn put_answer(
-    alloc: Global,
-    node: &mut NodeProcess,
-    request: &NodeRequest,
-    text: &mut Vec<u8>,
-) -> Result<(), AllocError>
-    ensures { OnOk result (AppendsNode (node_request_of request.now)
-        node.old node.new text.old.items text.new.items) }
-{
-    match request {
-        NodeRequest::Packet(handed) => take(alloc, node, handed, text),
-        NodeRequest::NoPacket => text.extend_from_slice(FOREIGN),
-        NodeRequest::Begin => begin(node, text),
-        NodeRequest::Export(period) => export(alloc, node, *period, text),
-        NodeRequest::Keep => keep(alloc, node, text),
-        NodeRequest::Give { agent, seq } => give(node, *agent, *seq, text),
-        NodeRequest::NoCommand => text.extend_from_slice(NO_COMMAND),
-    }
-}
-
-/// Does what a node is asked by a line and the lines below it, of which `node_lines` tells how many belong to it, and makes
-/// the text what it answers. An error is an allocation failure: then nothing of the text may leave, and nothing may be asked
-/// of the node any more, since it may have done what was not told.
+/// Does what a node is asked by a line and the lines below it, of which `packet_lines` tells how many belong to it, and
+/// makes the text what it answers. An error is an allocation failure: then nothing of the text may leave, and nothing may be
+/// asked of the node any more, since it may have done what was not told.
 pub(crate) fn answer_node(
     alloc: Global,
     node: &mut NodeProcess,
@@ -168,9 +175,13 @@ pub(crate) fn answer_node(
     ensures { OnOk result
         (AnswersNode (node_request line.now below.now) node.old node.new text.new.items) }
 {
-    let Ok(request) = node_request(alloc, line, below) else {
-        return Err(AllocError);
-    };
     text.clear();
-    put_answer(alloc, node, &request, text)
+    match node_request(line) {
+        NodeRequest::Packet => take(alloc, node, below, text),
+        NodeRequest::Begin => begin(node, text),
+        NodeRequest::Export(period) => export(alloc, node, period, text),
+        NodeRequest::Keep => keep(alloc, node, text),
+        NodeRequest::Give { agent, seq } => give(node, agent, seq, text),
+        NodeRequest::NoCommand => text.extend_from_slice(NO_COMMAND),
+    }
 }

@@ -1,31 +1,30 @@
 //! What a node and an agent are asked: a line, and the lines that it says to be below it.
 
-ghost use Rattle.std.specs.Prelude.{◌≡◌, ◌≤◌, codes, IfOk, IfSome};
+ghost use Rattle.std.specs.Prelude.{◌≡◌, ℕ, ◌≤◌, List, codes, IfOk, IfSome};
 ghost use Rattle.metering_model.specs.Limits.{most_journal_lines};
 ghost use Rattle.metering_model.specs.World as world;
 ghost use Rattle.input_sections.specs.Sections.{number_behind};
 ghost use Rattle.group_events.specs.Events.{offer_of};
-ghost use Rattle.process_text.specs.Requests.{agent_request, line_request, most_packet_lines, node_request, period_behind, place_behind, place_in, seq_behind};
+ghost use Rattle.process_text.specs.Requests.{agent_request, most_packet_lines, node_request, period_behind, place_behind, place_in};
 ghost use Rattle.process_text.specs.Inner.Read.{agent_request_of, node_request_of};
 
 use byte_text::{find_byte, is_same, read_whole};
 use group_events::Offer;
 use input_sections::{behind_word, number_behind};
-use packet_text::{GroupPacket, read_packet};
 use std::alloc::{AllocError, Global};
 
 /// The greatest packet has so many lines: one above a batch, and those of the greatest batch.
 const MOST_PACKET_LINES: u32 = 1_002;
 /// A batch has no more lines.
 const MOST_JOURNAL_LINES: u32 = 1_001;
+/// An agent gives its batches no higher sequence.
+const LAST_SEQUENCE: u32 = 1_000_000;
 
 /// What a node is asked.
 #[derive(Drop)]
 pub(crate) enum NodeRequest {
-    /// To take a packet.
-    Packet(GroupPacket),
-    /// To take what is no packet.
-    NoPacket,
+    /// To take the packet that stands below.
+    Packet,
     /// To begin a ballot.
     Begin,
     /// To export the period of that number.
@@ -41,8 +40,8 @@ pub(crate) enum NodeRequest {
 /// What an agent is asked.
 #[derive(Drop)]
 pub(crate) enum AgentRequest {
-    /// To journal a batch.
-    Journal(Offer),
+    /// To journal the batch that stands below.
+    Journal,
     /// To tell what it keeps.
     Keep,
     /// To send the batch of that sequence once more.
@@ -90,7 +89,7 @@ fn read_place(text: &[u8]) -> Option<(u8, u32)>
     let Some(agent) = read_whole(&text[..space], 1, 64) else {
         return None;
     };
-    let Some(seq) = read_whole(&text[space + 1..], 1, 1_000_000) else {
+    let Some(seq) = read_whole(&text[space + 1..], 1, LAST_SEQUENCE) else {
         return None;
     };
     Some((agent as u8, seq))
@@ -106,20 +105,13 @@ fn read_given(line: &[u8]) -> Option<(u8, u32)>
     read_place(place)
 }
 
-/// The sequence of the batch that is to be sent once more.
-fn read_again(line: &[u8]) -> Option<u32>
-    ensures { result ≡ seq_behind line.now }
+/// What a node is asked by a line, whatever stands below it.
+pub(crate) fn node_request(line: &[u8]) -> NodeRequest
+    ensures { (below : List ℕ) → node_request_of below result ≡ node_request line.now below }
 {
-    let Some(number) = behind_word(line, b"again ") else {
-        return None;
-    };
-    read_whole(number, 1, 1_000_000)
-}
-
-/// What a node is asked by a line below which nothing stands.
-fn line_request(line: &[u8]) -> NodeRequest
-    ensures { node_request_of result ≡ line_request line.now }
-{
+    if packet_lines(line).is_some() {
+        return NodeRequest::Packet;
+    }
     if is_same(line, b"start") {
         return NodeRequest::Begin;
     }
@@ -135,54 +127,28 @@ fn line_request(line: &[u8]) -> NodeRequest
     }
 }
 
-/// What a node is asked by a line and the lines below it. An error is an allocation failure.
-pub(crate) fn node_request(
-    alloc: Global,
-    line: &[u8],
-    below: &[u8],
-) -> Result<NodeRequest, AllocError>
-    ensures { IfOk result (λ request. node_request_of request ≡ node_request line.now below.now) }
+/// What an agent is asked by a line, whatever stands below it.
+pub(crate) fn agent_request(line: &[u8]) -> AgentRequest
+    ensures { (below : List ℕ) → agent_request_of below result ≡ agent_request line.now below }
 {
-    if packet_lines(line).is_none() {
-        return Ok(line_request(line));
+    if journal_lines(line).is_some() {
+        return AgentRequest::Journal;
     }
-    match read_packet(alloc, below) {
-        Ok(Some(packet)) => Ok(NodeRequest::Packet(packet)),
-        Ok(None) => Ok(NodeRequest::NoPacket),
-        Err(failed) => Err(failed),
+    if is_same(line, b"keep") {
+        return AgentRequest::Keep;
+    }
+    match number_behind(line, b"again ", LAST_SEQUENCE) {
+        Some(seq) => AgentRequest::Again(seq),
+        None => AgentRequest::NoCommand,
     }
 }
 
 /// What the bytes of a batch hand in: they are copied once, and the copy is read once and kept.
-fn read_offer(alloc: Global, text: &[u8]) -> Result<Offer, AllocError>
+pub(crate) fn read_offer(alloc: Global, text: &[u8]) -> Result<Offer, AllocError>
     ensures { IfOk result (λ offer. offer_of offer ≡ world.offer_of text.now) }
 {
     let Ok(bytes) = Vec::from_slice(alloc, text) else {
         return Err(AllocError);
     };
     Offer::read(alloc, bytes)
-}
-
-/// What an agent is asked by a line and the lines below it. An error is an allocation failure.
-pub(crate) fn agent_request(
-    alloc: Global,
-    line: &[u8],
-    below: &[u8],
-) -> Result<AgentRequest, AllocError>
-    ensures { IfOk result
-        (λ request. agent_request_of request ≡ agent_request line.now below.now) }
-{
-    if journal_lines(line).is_some() {
-        let Ok(offer) = read_offer(alloc, below) else {
-            return Err(AllocError);
-        };
-        return Ok(AgentRequest::Journal(offer));
-    }
-    if is_same(line, b"keep") {
-        return Ok(AgentRequest::Keep);
-    }
-    match read_again(line) {
-        Some(seq) => Ok(AgentRequest::Again(seq)),
-        None => Ok(AgentRequest::NoCommand),
-    }
 }

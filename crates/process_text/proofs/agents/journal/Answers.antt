@@ -1,14 +1,10 @@
-use Rattle.std.proofs.Common.{ap}
-use Rattle.group_events.specs.Batches.{batch_of}
-use Rattle.group_events.specs.Events.{offer_of}
-use Rattle.packet_text.proofs.Pieces.{then_ok}
-use Rattle.process_text.proofs.Told.{agent_journals}
+use Rattle.std.proofs.Common.{OnOk, subst}
+use Rattle.process_laws.specs.LocalSteps.{JournalBatch}
+use Rattle.process_text.specs.Requests.{AsksAgent}
+use Rattle.process_text.specs.Inner.Written.{AppendsAgent}
 use Rattle.process_text.proofs.agents.journal.Goals as goal
 
-pub returns-in-Ok-Ok : goal.returns-in-Ok-Ok
-returns-in-Ok-Ok c =
-    then_ok c.put_journaled.result _ _
-    (λ put. agent_journals (offer_of c.args.offer.now) c.args.agent.now c.journal.new.self c.in-Ok-Ok.field-0 c.in-Ok-Ok.journaled
-    (batch_of c.deref.result.now) c.args.text.now.items c.put_journaled.new.text.items
-    c.in-Ok-Ok.ensures.does c.in-Ok-Ok.ensures.adds c.in-Ok-Ok.field-0-is (ap batch_of c.deref.ensures) put)
-    c.put_journaled.ensures
+pub returns-in-Ok : goal.returns-in-Ok
+returns-in-Ok c =
+    subst (λ o. OnOk c.journal_offer.result (AppendsAgent (AsksAgent (JournalBatch o)) c.args.agent.now c.journal_offer.new.agent c.args.text.now.items c.journal_offer.new.text.items))
+    c.in-Ok.ensures c.journal_offer.ensures

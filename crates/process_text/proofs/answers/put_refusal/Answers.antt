@@ -5,11 +5,11 @@ use Rattle.log_text.proofs.WrittenLines.{then_put}
 use Rattle.process_text.specs.Answers.{process_refusal_text, refused_text}
 use Rattle.process_text.proofs.answers.put_refusal.Goals as goal
 
-pub returns-in_ok-put_refused-in-OfModel : goal.returns-in_ok-put_refused-in-OfModel
-returns-in_ok-put_refused-in-OfModel c =
+pub returns-in-Ok : goal.returns-in-Ok
+returns-in-Ok c =
     let old = c.args.text.now.items in
     then_put c.extend_from_slice.result c.put_refused.new.line.items _ (10 ∷ []) _ c.extend_from_slice.ensures.items
-    (ap (λ t. t ++ 10 ∷ []) c.in_ok-put_refused-in-OfModel.ensures ∙ append_assoc old (codes "refused " ++ refusal_text c.in-OfModel.refusal) (10 ∷ [])
+    (ap (λ t. t ++ 10 ∷ []) c.in-Ok.ensures ∙ append_assoc old (codes "refused " ++ refusal_text c.in-OfModel.refusal) (10 ∷ [])
     ∙ ap (λ why. old ++ refused_text (process_refusal_text (refusal_of why))) (sym c.in-OfModel.is))
 
 pub returns-in-Unfit : goal.returns-in-Unfit

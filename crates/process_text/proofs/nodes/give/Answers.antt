@@ -1,19 +1,11 @@
-use Rattle.std.proofs.Common.{codes, refl, ap, ◌∙◌}
-use Rattle.group_events.specs.Batches.{batch_of}
-use Rattle.log_text.proofs.WrittenLines.{then_put}
+use Rattle.std.proofs.Common.{ap, ◌∙◌}
 use Rattle.packet_text.proofs.Pieces.{then_ok}
-use Rattle.process_text.proofs.Told.{node_gives, node_lacks}
+use Rattle.process_text.proofs.Told.{node_gives}
 use Rattle.process_text.proofs.nodes.give.Goals as goal
 
-pub returns-in_ok-put_batch-in-Some : goal.returns-in_ok-put_batch-in-Some
-returns-in_ok-put_batch-in-Some c =
-    then_ok c.extend_from_slice.result _ _
-    (node_gives c.args.node.now c.args.agent c.args.seq c.name.result.now c.args.text.now.items c.put_batch.new.text.items c.extend_from_slice.new.self.items (batch_of c.in-Some.batch.now)
-    c.in-Some.ensures (c.name.ensures ∙ ap (λ g. g.name) c.group.ensures) c.in_ok-put_batch-in-Some.ensures)
-    (then_put c.extend_from_slice.result c.put_batch.new.text.items c.extend_from_slice.new.self.items (codes "sent\n") _ c.extend_from_slice.ensures.items refl)
-
-pub returns-in-None : goal.returns-in-None
-returns-in-None c =
-    then_ok c.put_refusal.result _ _
-    (node_lacks c.args.node.now c.args.agent c.args.seq c.args.text.now.items c.put_refusal.new.text.items c.in-None.ensures)
-    c.put_refusal.ensures
+pub returns : goal.returns
+returns c =
+    then_ok c.put_given.result _ _
+    (node_gives c.args.node.now c.args.agent c.args.seq c.held.result c.name.result.now c.args.text.now.items c.put_given.new.text.items
+    c.held.ensures (c.name.ensures ∙ ap (λ g. g.name) c.group.ensures))
+    c.put_given.ensures

@@ -1,12 +1,16 @@
-use Rattle.group_node.specs.Packets.{packet_of}
-use Rattle.packet_text.proofs.Pieces.{then_ok}
-use Rattle.process_text.proofs.Told.{node_takes}
+use Rattle.std.proofs.Common.{OnOk, sym, subst, ◌∙◌}
+use Rattle.process_text.specs.Requests.{packet_request}
+use Rattle.process_text.specs.Inner.Written.{AppendsNode}
+use Rattle.process_text.proofs.Told.{foreign_told}
 use Rattle.process_text.proofs.nodes.take.Goals as goal
 
 pub returns-in-Ok-Some : goal.returns-in-Ok-Some
 returns-in-Ok-Some c =
-    then_ok c.put_taken.result _ _
-    (node_takes c.args.node.now c.take.new.self c.args.handed.now.group c.group.result.now c.args.handed.now.packet (packet_of c.packet.result.now) (packet_of c.packet-in-Ok-Some.result.now)
-    c.in-Ok-Some.field-0 c.in-Ok-Some.taken c.args.text.now.items c.put_taken.new.text.items
-    c.group.ensures c.packet.ensures c.packet-in-Ok-Some.ensures c.in-Ok-Some.field-0-is c.in-Ok-Some.ensures.does c.in-Ok-Some.ensures.adds)
-    c.put_taken.ensures
+    subst (λ o. OnOk c.take_packet.result (AppendsNode (packet_request o) c.args.node.now c.take_packet.new.node c.args.text.now.items c.take_packet.new.text.items))
+    (sym c.in-Ok-Some.field-0-is ∙ c.in-Ok-Some.ensures.read) c.take_packet.ensures
+
+pub returns-in-Ok-None : goal.returns-in-Ok-None
+returns-in-Ok-None c =
+    subst (λ o. OnOk c.extend_from_slice.result (AppendsNode (packet_request o) c.args.node.now c.args.node.now c.args.text.now.items c.extend_from_slice.new.self.items))
+    (sym c.in-Ok-None.field-0-is ∙ c.in-Ok-None.ensures.read)
+    (foreign_told c.extend_from_slice.result c.args.node.now c.args.text.now.items c.extend_from_slice.new.self.items c.extend_from_slice.ensures.items)
