@@ -31,7 +31,7 @@ impl Process {
         }
     }
 
-    /// Does what is asked by a line and the lines that belong to it, each with its line feed, and makes the text what is
+    /// Does what is asked by a line, without its line feed, and the lines that belong to it, each with its own, and makes the text what is
     /// answered. An error is an allocation failure: then nothing of the text may leave, and nothing may be asked of the
     /// process any more, since it may have done what was not reported.
     pub fn answer(
