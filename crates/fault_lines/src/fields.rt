@@ -1,7 +1,7 @@
 //! Which field of a record's line is told of a fault.
 
 ghost use Rattle.std.specs.Prelude.{true, ◌≡◌, ◌<◌, ◌∷◌, Some, None, Err, length, MatchOption};
-ghost use Rattle.metering_model.specs.Batch.{is_text};
+ghost use Rattle.metering_model.specs.Batch.{is_text, is_text_byte};
 ghost use Rattle.metering_model.specs.BatchReading.{batch_in, fields_in, kind_in, record_in};
 ghost use Rattle.metering_model.specs.declared.Version.{Version};
 ghost use Rattle.fault_lines.specs.Fields.{fault_field, field_name, field_of, is_of_field, line_at};
@@ -105,11 +105,23 @@ fn reading_fields<'a>(line: &'a [u8]) -> Option<ReadingFields<'a>>
     })
 }
 
-/// Whether each byte is printable ASCII.
+/// Whether a byte is printable ASCII.
+fn is_text_byte(byte: u8) -> bool
+    ensures { result ≡ is_text_byte byte }
+{
+    byte >= 0x20 && byte <= 0x7E
+}
+
+/// Whether each byte is.
 fn is_text(text: &[u8]) -> bool
     ensures { result ≡ is_text text.now }
 {
-    text.iter().all(|c| *c >= 0x20 && *c <= 0x7E)
+    for byte in text {
+        if !is_text_byte(*byte) {
+            return false;
+        }
+    }
+    true
 }
 
 /// The kind of readings of this letter.

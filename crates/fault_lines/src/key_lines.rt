@@ -1,7 +1,7 @@
 //! On which line of its section a key stands that no reader takes.
 
-ghost use Rattle.std.specs.Prelude.{◌≡◌, [], not, ◌+◌, ◌++◌, IfOk, OnOk, map, filter};
-ghost use Rattle.std.specs.List.{flat_map, position};
+ghost use Rattle.std.specs.Prelude.{◌≡◌, ◌≤◌, [], not, ◌+◌, ◌++◌, length, IfOk, OnOk, map, filter};
+ghost use Rattle.std.specs.List.{flat_map, position_or_len};
 ghost use Rattle.metering_model.specs.BatchReading.{lines_in};
 ghost use Rattle.fault_lines.specs.UnknownKeys.{first_word, from_first, has_key, is_key, keys_left, opens_table, shown, table_below, table_of, told_along, told_of_keys, told_unknown};
 ghost use Rattle.fault_lines.specs.Inner.KeyKinds.{is_of_kind};
@@ -56,21 +56,24 @@ fn is_of_kind(kind: ByteKind, byte: u8) -> bool
     }
 }
 
-/// Where the first byte stands that is not of a kind.
-fn first_other(kind: ByteKind, line: &[u8]) -> Option<usize>
-    ensures { result ≡ position (λ c. not (is_of_kind kind c)) line.now }
+/// How many bytes of a kind stand at the front of a line.
+fn count_in_front(kind: ByteKind, line: &[u8]) -> usize
+    ensures within { result ≤ length line.now }
+    ensures first_other { result ≡ position_or_len (λ c. not (is_of_kind kind c)) line.now }
 {
-    line.iter().position(|c| !is_of_kind(kind, *c))
+    for index in 0..line.len() {
+        if !is_of_kind(kind, line[index]) {
+            return index;
+        }
+    }
+    line.len()
 }
 
 /// What stands behind the bytes of a kind at the front of a line.
 fn behind_those(kind: ByteKind, line: &[u8]) -> &[u8]
     ensures { result.now ≡ from_first (λ c. not (is_of_kind kind c)) line.now }
 {
-    match first_other(kind, line) {
-        Some(at) => &line[at..],
-        None => b"",
-    }
+    &line[count_in_front(kind, line)..]
 }
 
 /// What a line begins with behind blanks, `[` and quotation marks, up to what is no letter, digit, `-` or `_`.
@@ -78,10 +81,7 @@ fn first_word(line: &[u8]) -> &[u8]
     ensures { result.now ≡ first_word line.now }
 {
     let behind = behind_those(ByteKind::BeforeKey, line);
-    match first_other(ByteKind::OfKey, behind) {
-        Some(at) => &behind[..at],
-        None => behind,
-    }
+    &behind[..count_in_front(ByteKind::OfKey, behind)]
 }
 
 /// Whether `[` comes first in a line, behind blanks.
