@@ -40,7 +40,7 @@ two_tabbed key old more =
     ∙ (append_assoc key (9 ∷ []) ((old ++ 9 ∷ []) ++ more) ∙ ap (λ t. key ++ 9 ∷ t) (append_assoc old (9 ∷ []) more)))
 
 module _ (named : List (Bor (List ℕ))) (key old new : List ℕ) where
-  pub line_put : (t named_put key_put new_put put : List ℕ) → old ≢ new → named_put ≡ t ++ each_tabbed named → key_put ≡ named_put ++ ((key ++ 9 ∷ []) ++ ((old ++ 9 ∷ []) ++ [])) → new_put ≡ key_put ++ new → put ≡ new_put ++ 10 ∷ [] →
+  pub line_put : (t named_put key_put new_put put : List ℕ) → is_same old new ≡ false → named_put ≡ t ++ each_tabbed named → key_put ≡ named_put ++ ((key ++ 9 ∷ []) ++ ((old ++ 9 ∷ []) ++ [])) → new_put ≡ key_put ++ new → put ≡ new_put ++ 10 ∷ [] →
       put ≡ t ++ changed (texts_of named ++ key ∷ []) old new
   line_put t named_put key_put new_put put other first second third fourth =
       let two = (key ++ 9 ∷ []) ++ ((old ++ 9 ∷ []) ++ []) in
@@ -48,4 +48,4 @@ module _ (named : List (Bor (List ℕ))) (key old new : List ℕ) where
       ∙ (ap (λ x. x ++ 10 ∷ []) (third ∙ (ap (λ x. x ++ new) (second ∙ ap (λ x. x ++ two) first)
       ∙ (append_assoc (t ++ each_tabbed named) two new ∙ (ap (λ x. (t ++ each_tabbed named) ++ x) (two_tabbed key old new)
       ∙ (append_assoc t (each_tabbed named) (key ++ 9 ∷ (old ++ 9 ∷ new)) ∙ ap (λ x. t ++ x) (sym (joined_behind named key old new)))))))
-      ∙ (append_assoc t (join_with_byte 9 ((texts_of named ++ key ∷ []) ++ old ∷ new ∷ [])) (10 ∷ []) ∙ ap (λ x. t ++ x) (sym (one_changed (texts_of named ++ key ∷ []) old new other))))
+      ∙ (append_assoc t (join_with_byte 9 ((texts_of named ++ key ∷ []) ++ old ∷ new ∷ [])) (10 ∷ []) ∙ ap (λ x. t ++ x) (sym (cond-false (is_same old new) [] (tabbed ((texts_of named ++ key ∷ []) ++ old ∷ new ∷ [])) other))))

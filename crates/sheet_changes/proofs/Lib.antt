@@ -7,6 +7,7 @@ mod CommitmentLaws
 mod RegionLaws
 mod LikenessLaws
 mod SaidLaws
+mod InputLaws
 mod SortedLists
 mod CheckLaws
 mod ListWalks

@@ -1,6 +1,7 @@
 -- What was put of a list so far, of one element more, and of all.
-use Rattle.std.proofs.Common.{◌≡◌, ℕ, ◌+◌, ◌<◌, ◌≤◌, Bool, true, false, cond, List, [], ◌∷◌, ◌++◌, Bor, length, get_or, map, filter, take, sym, ap, ◌∙◌, codes}
+use Rattle.std.proofs.Common.{◌≡◌, ℕ, ◌+◌, ◌<◌, ◌≤◌, Bool, true, false, cond, List, [], ◌∷◌, ◌++◌, Bor, Result, Ok, Err, OnOk, length, get_or, map, filter, take, sym, ap, ◌∙◌, codes}
 use Rattle.std.specs.List.{flat_map}
+use Rattle.std.specs.Result.{is_ok}
 use Rattle.std.proofs.lemmas.Grind.{flat_map-append}
 use Rattle.std.proofs.lemmas.List.{append-nil, append_assoc, map-append, take_all, take_more}
 use Rattle.std.proofs.lemmas.List.Elements.{filter-append}
@@ -60,3 +61,9 @@ module _ (test : Region → Bool) (old told longer : List ℕ) (rows : List Regi
 
   pub left_out : test x ≡ false → longer ≡ told → longer ≡ old ++ lines_of test (take (i + 1) rows)
   left_out fails same = put_more (same ∙ sym (append-nil told) ∙ ap (λ b. told ++ region_lines (ids_of (cond b (x ∷ []) []))) (sym fails))
+
+-- ---- what a call of a Vec appends last, which may fail
+
+pub on_put : {A E P : Type 0} (r : Result A E) (put with without : List ℕ) → put ≡ cond (is_ok r) with without → (put ≡ with → P) → OnOk r P
+on_put (Ok x) put with without is then = then is
+on_put (Err e) put with without is then = tt

@@ -117,9 +117,13 @@ pub(crate) fn two_sheets(alloc: Global, text: &[u8]) -> Result<(Sheet, Sheet), S
         (λ fault. fault ≢ ScheduleFault.OutOfMemory → two_sheets_in text.now ≡ Err fault) }
     ensures rules { IfOk result (λ both. IsSheet both.0 × IsSheet both.1) }
 {
-    let unread = Unread::whole(text)?;
-    let (old, unread) = read_sheet(alloc, &unread)?;
-    with_last(alloc, old, &unread)
+    match Unread::whole(text) {
+        Ok(unread) => match read_sheet(alloc, &unread) {
+            Ok((old, behind)) => with_last(alloc, old, &behind),
+            Err(fault) => Err(fault),
+        },
+        Err(fault) => Err(fault),
+    }
 }
 
 /// Whether a new sheet goes on from a day, as its likeness tells.
@@ -156,9 +160,13 @@ fn put_changes(
     ensures stays { IfOk result (λ stays. IsTrue stays ↔ StaysBefore before old.now new.now) }
 {
     let likeness = likeness_between(old, new);
-    put_likeness(text, &likeness)?;
+    let Ok(()) = put_likeness(text, &likeness) else {
+        return Err(AllocError);
+    };
     let first = text.len();
-    put_regions(text, old, new)?;
+    let Ok(()) = put_regions(text, old, new) else {
+        return Err(AllocError);
+    };
     Ok(stays(before, &likeness, text.len() == first))
 }
 
@@ -176,9 +184,13 @@ fn put_answer(
     ensures says { OnOk result (SaysAll asked.all old.now new.now text.new.items) }
     ensures stays { IfOk result (λ stays. IsTrue stays ↔ StaysBefore asked.before old.now new.now) }
 {
-    let stays = put_changes(text, asked.before, old, new)?;
+    let Ok(stays) = put_changes(text, asked.before, old, new) else {
+        return Err(AllocError);
+    };
     if asked.all {
-        put_fields(alloc, text, old, new)?;
+        let Ok(()) = put_fields(alloc, text, old, new) else {
+            return Err(AllocError);
+        };
     }
     Ok(stays)
 }
@@ -215,32 +227,6 @@ fn write_changes<W: Sink>(
     }
 }
 
-/// The same of two sheets that are not needed any more.
-fn write_both<W: Sink>(
-    alloc: Global,
-    asked: Asked,
-    both: (Sheet, Sheet),
-    writer: &mut W,
-) -> Result<bool, PlayFault>
-    requires { IsSheet both.0 × IsSheet both.1 }
-    ensures said { IfOk result (λ stays. (IsTrue stays ↔ StaysBefore asked.before both.0 both.1)
-        × (text : List ℕ) × SaysAll asked.all both.0 both.1 text
-        × Appends (W.contents writer.old) (W.contents writer.new) text) }
-    ensures prefix { result ≡ Err PlayFault.Write → (text : List ℕ)
-        × SaysAll asked.all both.0 both.1 text
-        × AppendsPrefix (W.contents writer.old) (W.contents writer.new) text }
-    ensures kept { IfErr result (λ fault. fault ≢ PlayFault.Write → writer.new ≡ writer.old) }
-    ensures others { (result ≢ Err PlayFault.Read)
-        × ((fault : ScheduleFault) → result ≢ Err (PlayFault.Schedule fault))
-        × ((refusal : Refusal) → result ≢ Err (PlayFault.Refused refusal)) }
-    ensures writes { W.failed_calls writer.new
-        ≡ count_after (tells_of_writer result) (W.failed_calls writer.old) }
-{
-    let result = write_changes(alloc, asked, &both.0, &both.1, writer);
-    drop_both(both);
-    result
-}
-
 /// Writes what is said of the two sheets of an input that was read.
 fn compare_input<W: Sink>(
     alloc: Global,
@@ -264,7 +250,11 @@ fn compare_input<W: Sink>(
         ≡ count_after (tells_of_writer result) (W.failed_calls writer.old) }
 {
     match two_sheets(alloc, input) {
-        Ok(both) => write_both(alloc, asked, both, writer),
+        Ok(both) => {
+            let result = write_changes(alloc, asked, &both.0, &both.1, writer);
+            drop_both(both);
+            result
+        }
         Err(fault) => Err(PlayFault::from(fault)),
     }
 }

@@ -1,7 +1,6 @@
 //! `focusd check --kind sheets`: what is wrong with the input of two sheets.
 
-ghost use Rattle.std.specs.Prelude.{◌≡◌, ◌≢◌, ◌++◌, Ok, Err, IfErr, IsOk, OnOk};
-ghost use Rattle.input_sections.specs.declared.faults.ScheduleFault.{ScheduleFault};
+ghost use Rattle.std.specs.Prelude.{◌≡◌, ◌++◌, Ok, IsOk, OnOk};
 ghost use Rattle.input_sections.specs.Sections.{whole_of};
 ghost use Rattle.fault_lines.specs.Checked.{Checks};
 ghost use Rattle.fault_lines.specs.UnknownKeys.{unknown_from};
@@ -12,25 +11,10 @@ ghost use Rattle.sheet_changes.specs.Inner.SaidLines.{long_said, none_said};
 use crate::changes::{drop_both, two_sheets};
 use counted_io::{Sink, Source};
 use fault_lines::{Check, check_input, put_fault, put_unknown_keys};
-use input_sections::{ScheduleCode, ScheduleFault, Unread, read_section};
+use input_sections::{ScheduleCode, Unread, read_section};
 use program_input::PlayFault;
 use std::alloc::{AllocError, Global};
 use std::sync::Arc;
-
-/// The first fault of the two sections and of what stands behind them, if there is one.
-fn take_sheets(alloc: Global, text: &[u8]) -> Result<(), ScheduleFault>
-    ensures taken { OnOk result (IsOk (two_sheets_in text.now)) }
-    ensures refused { IfErr result
-        (λ fault. fault ≢ ScheduleFault.OutOfMemory → two_sheets_in text.now ≡ Err fault) }
-{
-    match two_sheets(alloc, text) {
-        Ok(both) => {
-            drop_both(both);
-            Ok(())
-        }
-        Err(fault) => Err(fault),
-    }
-}
 
 /// Appends the keys of two sections that no reader takes.
 fn put_unknown(
@@ -42,7 +26,9 @@ fn put_unknown(
     ensures { OnOk result (told.new.items
         ≡ told.old.items ++ (unknown_from old.now ++ unknown_from new.now)) }
 {
-    put_unknown_keys(alloc, told, old)?;
+    let Ok(()) = put_unknown_keys(alloc, told, old) else {
+        return Err(AllocError);
+    };
     put_unknown_keys(alloc, told, new)
 }
 
@@ -85,8 +71,11 @@ fn put_checked(
     ensures warned { OnOk result
         (warned.new.items ≡ warned.old.items ++ warned_of_two_sheets text.now) }
 {
-    match take_sheets(alloc, text) {
-        Ok(()) => put_warnings(alloc, warned, text),
+    match two_sheets(alloc, text) {
+        Ok(both) => {
+            drop_both(both);
+            put_warnings(alloc, warned, text)
+        }
         Err(fault) => put_fault(alloc, told, text, fault),
     }
 }

@@ -11,7 +11,10 @@ fn is_same(old: Option<&Commitment>, new: Option<&Commitment>) -> bool
     ensures { IsTrue result ↔ (option_copied new.entry ≡ option_copied old.entry) }
 {
     match old {
-        Some(old) => new.is_some_and(|new| new.same(old)),
+        Some(old) => match new {
+            Some(new) => new.same(old),
+            None => false,
+        },
         None => new.is_none(),
     }
 }

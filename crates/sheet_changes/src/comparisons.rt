@@ -45,9 +45,10 @@ pub fn likeness_between<'a>(old: &'a Sheet, new: &Sheet) -> Likeness<'a>
 fn put_both(text: &mut Vec<u8>, word: &[u8], behind: &[u8]) -> Result<(), AllocError>
     ensures { OnOk result (text.new.items ≡ text.old.items ++ (word.now ++ behind.now)) }
 {
-    text.extend_from_slice(word)?;
-    text.extend_from_slice(behind)?;
-    Ok(())
+    let Ok(()) = text.extend_from_slice(word) else {
+        return Err(AllocError);
+    };
+    text.extend_from_slice(behind)
 }
 
 /// Appends the words of a likeness.
@@ -68,7 +69,8 @@ pub(crate) fn put_likeness(text: &mut Vec<u8>, likeness: &Likeness<'_>) -> Resul
     ensures { OnOk result ((words : List ℕ) × IsLikenessText (likeness_of likeness.now) words
         × (text.new.items ≡ text.old.items ++ line words)) }
 {
-    put_words(text, likeness)?;
-    text.push(b'\n')?;
-    Ok(())
+    let Ok(()) = put_words(text, likeness) else {
+        return Err(AllocError);
+    };
+    text.extend_from_slice(b"\n")
 }

@@ -7,7 +7,7 @@ ghost use Rattle.metering_model.specs.Sheet.{commitment_category_text, service_c
 ghost use Rattle.sheet_text.specs.Names.{key_name};
 ghost use Rattle.sheet_changes.specs.FieldChanges.{changed, changed_keys, commitment_text, part, price_text};
 
-use byte_text::put_number;
+use byte_text::{is_same, put_number};
 use metering_model::{CommitmentCategory, ServiceCategory};
 use sheet_text::{Commitment, Key, PriceRow};
 use std::alloc::{AllocError, Global};
@@ -99,7 +99,7 @@ fn put_named(text: &mut Vec<u8>, named: &[&[u8]]) -> Result<(), AllocError>
         let Ok(()) = text.extend_from_slice(part) else {
             return Err(AllocError);
         };
-        let Ok(()) = text.push(b'\t') else {
+        let Ok(()) = text.extend_from_slice(b"\t") else {
             return Err(AllocError);
         };
     }
@@ -118,7 +118,7 @@ pub(crate) fn put_changed(
         ≡ text.old.items ++ changed
         (map (λ part. part.now) named.now ++ key.now ∷ []) old.now new.now) }
 {
-    if old == new {
+    if is_same(old, new) {
         return Ok(());
     }
     let Ok(()) = put_named(text, named) else {
@@ -130,8 +130,7 @@ pub(crate) fn put_changed(
     let Ok(()) = text.extend_from_slice(new) else {
         return Err(AllocError);
     };
-    text.push(b'\n')?;
-    Ok(())
+    text.extend_from_slice(b"\n")
 }
 
 /// What is said of a side under a key; nothing where there is none.
@@ -140,7 +139,9 @@ fn said_of<R: Keyed>(alloc: Global, row: Option<&R>, key: Key) -> Result<Vec<u8>
 {
     let mut text = Vec::new(alloc);
     if let Some(row) = row {
-        row.put_under(alloc, key, &mut text)?;
+        let Ok(()) = row.put_under(alloc, key, &mut text) else {
+            return Err(AllocError);
+        };
     }
     Ok(text)
 }
@@ -182,7 +183,9 @@ pub(crate) fn put_keys<R: Keyed>(
         (option_copied old.entry) (option_copied new.entry)) }
 {
     for key in keys {
-        put_key(alloc, text, named, *key, old, new)?;
+        let Ok(()) = put_key(alloc, text, named, *key, old, new) else {
+            return Err(AllocError);
+        };
     }
     Ok(())
 }

@@ -11,7 +11,7 @@ ghost use Rattle.sheet_changes.specs.Inner.Listed.{day_of_pair};
 
 use crate::days::day_text;
 use crate::fields::{put_changed, put_keys};
-use crate::orders::{commitment_ids, price_days, region_ids};
+use crate::orders::{put_commitment_ids, put_price_days, put_region_ids};
 use price_sheet::{Key, Sheet};
 use std::alloc::{AllocError, Global};
 use utc_calendar::Day;
@@ -67,7 +67,9 @@ fn put_prices(
         × (text.new.items ≡ text.old.items ++ prices)) }
 {
     for at in days {
-        put_price(alloc, text, old, new, at)?;
+        let Ok(()) = put_price(alloc, text, old, new, at) else {
+            return Err(AllocError);
+        };
     }
     Ok(())
 }
@@ -105,7 +107,9 @@ fn put_commitments(
         ++ flat_map (commitment_lines old.now new.now) (map (λ id. id.now) ids.now)) }
 {
     for id in ids {
-        put_commitment(alloc, text, old, new, id)?;
+        let Ok(()) = put_commitment(alloc, text, old, new, id) else {
+            return Err(AllocError);
+        };
     }
     Ok(())
 }
@@ -122,15 +126,13 @@ fn put_name(
         (part (λ name. name) (option_copied old.entry))
         (part (λ name. name) (option_copied new.entry))) }
 {
-    let had = match old {
-        Some(name) => name,
-        None => b""
-    };
-    let has = match new {
-        Some(name) => name,
-        None => b""
-    };
-    put_changed(text, &[b"region"], id, had, has)
+    put_changed(
+        text,
+        &[b"region"],
+        id,
+        old.unwrap_or(b""),
+        new.unwrap_or(b""),
+    )
 }
 
 /// Appends the names that differ of the regions with these ids.
@@ -139,7 +141,9 @@ fn put_names(text: &mut Vec<u8>, old: &Sheet, new: &Sheet, ids: &[&[u8]]) -> Res
         ++ flat_map (region_line old.now new.now) (map (λ id. id.now) ids.now)) }
 {
     for id in ids {
-        put_name(text, id, old.region(id), new.region(id))?;
+        let Ok(()) = put_name(text, id, old.region(id), new.region(id)) else {
+            return Err(AllocError);
+        };
     }
     Ok(())
 }
@@ -156,8 +160,9 @@ fn put_all_prices(
         × ListsPrices old.now new.now listed prices
         × (text.new.items ≡ text.old.items ++ prices)) }
 {
-    match price_days(alloc, old, new) {
-        Ok(days) => put_prices(alloc, text, old, new, &days),
+    let mut days = Vec::new(alloc);
+    match put_price_days(&mut days, old, new) {
+        Ok(()) => put_prices(alloc, text, old, new, &days),
         Err(error) => Err(error),
     }
 }
@@ -173,8 +178,9 @@ fn put_all_commitments(
         × AreSorted (slice_cmp nat_cmp) (commitment_ids old.now new.now) ids
         × (text.new.items ≡ text.old.items ++ flat_map (commitment_lines old.now new.now) ids)) }
 {
-    match commitment_ids(alloc, old, new) {
-        Ok(ids) => put_commitments(alloc, text, old, new, &ids),
+    let mut ids = Vec::new(alloc);
+    match put_commitment_ids(&mut ids, old, new) {
+        Ok(()) => put_commitments(alloc, text, old, new, &ids),
         Err(error) => Err(error),
     }
 }
@@ -190,8 +196,9 @@ fn put_all_names(
         × AreSorted (slice_cmp nat_cmp) (region_ids old.now new.now) ids
         × (text.new.items ≡ text.old.items ++ flat_map (region_line old.now new.now) ids)) }
 {
-    match region_ids(alloc, old, new) {
-        Ok(ids) => put_names(text, old, new, &ids),
+    let mut ids = Vec::new(alloc);
+    match put_region_ids(&mut ids, old, new) {
+        Ok(()) => put_names(text, old, new, &ids),
         Err(error) => Err(error),
     }
 }

@@ -5,6 +5,7 @@ ghost use Rattle.sheet_changes.specs.Changes.{region_lines};
 ghost use Rattle.sheet_changes.specs.Inner.Compared.{lines_of};
 ghost use Rattle.sheet_changes.specs.Regions.{is_added, is_named_otherwise, unlike_regions};
 
+use byte_text::is_same;
 use price_sheet::{Region, Sheet};
 use std::alloc::AllocError;
 
@@ -13,7 +14,10 @@ fn is_named_otherwise(old: &Sheet, new: &Sheet, region: &Region) -> bool
 {
     let id = region.id().as_bytes();
     match old.region(id) {
-        Some(name) => new.region(id).is_none_or(|other| other != name),
+        Some(name) => match new.region(id) {
+            Some(other) => !is_same(other, name),
+            None => true,
+        },
         None => new.region(id).is_some(),
     }
 }
@@ -34,8 +38,7 @@ fn put_region(text: &mut Vec<u8>, region: &Region) -> Result<(), AllocError>
     let Ok(()) = text.extend_from_slice(region.id().as_bytes()) else {
         return Err(AllocError);
     };
-    text.push(b'\n')?;
-    Ok(())
+    text.extend_from_slice(b"\n")
 }
 
 /// Appends the lines of those regions that the two sheets name otherwise.
@@ -50,7 +53,9 @@ fn put_renamed(
 {
     for region in regions {
         if is_named_otherwise(old, new, region) {
-            put_region(text, region)?;
+            let Ok(()) = put_region(text, region) else {
+                return Err(AllocError);
+            };
         }
     }
     Ok(())
@@ -63,7 +68,9 @@ fn put_added(text: &mut Vec<u8>, regions: &[Region], old: &Sheet) -> Result<(), 
 {
     for region in regions {
         if is_added(old, region) {
-            put_region(text, region)?;
+            let Ok(()) = put_region(text, region) else {
+                return Err(AllocError);
+            };
         }
     }
     Ok(())
@@ -75,6 +82,8 @@ pub(crate) fn put_regions(text: &mut Vec<u8>, old: &Sheet, new: &Sheet) -> Resul
     ensures { OnOk result (text.new.items
         ≡ text.old.items ++ region_lines (unlike_regions old.now new.now)) }
 {
-    put_renamed(text, old.regions(), old, new)?;
+    let Ok(()) = put_renamed(text, old.regions(), old, new) else {
+        return Err(AllocError);
+    };
     put_added(text, new.regions(), old)
 }

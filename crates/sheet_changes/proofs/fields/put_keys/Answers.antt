@@ -11,7 +11,7 @@ pub loop-key-preserved : goal.loop-key-preserved
 loop-key-preserved g c =
     let named = map (λ part. part.now) c.args.named.now in
     let line = λ (key : Key). changed (named ++ key_name key ∷ []) (part (g.R.Keyed.said key) (option_copied c.args.old)) (part (g.R.Keyed.said key) (option_copied c.args.new)) in
-    put_next line c.args.text.now.items c.loop-key.text.items c.put_key.new.text.items c.args.keys.now c.loop-key.key-index _ c.loop-key-test.true c.in_ok-put_key.ensures c.loop-key.invariant
+    put_next line c.args.text.now.items c.loop-key.text.items c.put_key.new.text.items c.args.keys.now c.loop-key.key-index _ c.loop-key-test.true c.in-Ok.ensures c.loop-key.invariant
 
 pub returns : goal.returns
 returns g c =

@@ -5,8 +5,8 @@ use Rattle.sheet_changes.proofs.fields.put_named.Goals as goal
 
 pub loop-part-preserved : goal.loop-part-preserved
 loop-part-preserved c =
-    put_next (λ (part : Bor (List ℕ)). part.now ++ 9 ∷ []) c.args.text.now.items c.loop-part.text.items c.push.new.self.items c.args.named.now c.loop-part.part-index _ c.loop-part-test.true
-    (c.in-Ok-push.ensures.items ∙ ap (λ t. t ++ 9 ∷ []) c.in-Ok.ensures.items ∙ append_assoc c.loop-part.text.items _ (9 ∷ [])) c.loop-part.invariant
+    put_next (λ (part : Bor (List ℕ)). part.now ++ 9 ∷ []) c.args.text.now.items c.loop-part.text.items c.extend_from_slice-in-loop-part.new.self.items c.args.named.now c.loop-part.part-index _ c.loop-part-test.true
+    (c.in-Ok-extend_from_slice.ensures.items ∙ ap (λ t. t ++ 9 ∷ []) c.in-Ok.ensures.items ∙ append_assoc c.loop-part.text.items _ (9 ∷ [])) c.loop-part.invariant
 
 pub returns : goal.returns
 returns c =

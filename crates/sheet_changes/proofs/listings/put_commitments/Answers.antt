@@ -7,7 +7,7 @@ use Rattle.sheet_changes.proofs.listings.put_commitments.Goals as goal
 pub loop-id-preserved : goal.loop-id-preserved
 loop-id-preserved c =
     put_next_text (commitment_lines c.args.old.now c.args.new.now) c.args.text.now.items c.loop-id.text.items c.put_commitment.new.text.items c.args.ids.now c.loop-id.id-index _ c.loop-id-test.true
-    c.in_ok-put_commitment.ensures c.loop-id.invariant
+    c.in-Ok.ensures c.loop-id.invariant
 
 pub returns : goal.returns
 returns c =

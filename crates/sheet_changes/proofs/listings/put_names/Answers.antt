@@ -8,7 +8,7 @@ pub loop-id-preserved : goal.loop-id-preserved
 loop-id-preserved c =
     let named = λ (id : List ℕ) (had has : Option (List ℕ)). c.loop-id.text.items ++ changed (codes "region" ∷ id ∷ []) (part (λ name. name) had) (part (λ name. name) has) in
     put_next_text (region_line c.args.old.now c.args.new.now) c.args.text.now.items c.loop-id.text.items c.put_name.new.text.items c.args.ids.now c.loop-id.id-index _ c.loop-id-test.true
-    (c.in_ok-put_name.ensures ∙ ap₂ (named _) c.region.ensures c.region-in-loop-id.ensures) c.loop-id.invariant
+    (c.in-Ok.ensures ∙ ap₂ (named _) c.region.ensures c.region-in-loop-id.ensures) c.loop-id.invariant
 
 pub returns : goal.returns
 returns c =

@@ -3,16 +3,16 @@ use Rattle.sheet_changes.specs.Inner.Compared.{lines_of}
 use Rattle.sheet_changes.specs.Regions.{is_named_otherwise}
 use Rattle.sheet_changes.proofs.ListWalks.{all_of, left_out, passed}
 use Rattle.sheet_changes.proofs.regions.put_renamed.Goals as goal
-use Rattle.sheet_changes.proofs.regions.put_renamed.Goals.{then-is_named_otherwise+in_ok-put_region, else-is_named_otherwise}
+use Rattle.sheet_changes.proofs.regions.put_renamed.Goals.{then-is_named_otherwise+in-Ok, else-is_named_otherwise}
 
 pub loop-region-preserved : goal.loop-region-preserved
 loop-region-preserved c =
     let test = is_named_otherwise c.args.old.now c.args.new.now in
     elim c.if-is_named_otherwise.branch [
-      | then-is_named_otherwise+in_ok-put_region w ↦
+      | then-is_named_otherwise+in-Ok w ↦
           passed test c.args.text.now.items c.loop-region.text.items c.if-is_named_otherwise.text.items c.args.regions.now c.loop-region.region-index c.region-item.result
           c.loop-region-test.true c.region-item.is c.loop-region.invariant
-          (sym c.is_named_otherwise.ensures ∙ w.if-is_named_otherwise.true) (ap (λ v. v.items) w.text-is ∙ w.in_ok-put_region.ensures)
+          (sym c.is_named_otherwise.ensures ∙ w.if-is_named_otherwise.true) (ap (λ v. v.items) w.text-is ∙ w.in-Ok.ensures)
       | else-is_named_otherwise w ↦
           left_out test c.args.text.now.items c.loop-region.text.items c.if-is_named_otherwise.text.items c.args.regions.now c.loop-region.region-index c.region-item.result
           c.loop-region-test.true c.region-item.is c.loop-region.invariant

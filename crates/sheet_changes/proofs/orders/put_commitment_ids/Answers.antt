@@ -4,13 +4,13 @@ use Rattle.std.proofs.lemmas.Map.Lookups.{exact_bytes}
 use Rattle.std.specs.Cmp.Lexicographic.{texts_ties}
 use Rattle.sheet_changes.specs.FieldChanges.{commitment_ids}
 use Rattle.sheet_changes.proofs.SortedLists.{are_sorted, of_both}
-use Rattle.sheet_changes.proofs.orders.commitment_ids.Goals as goal
+use Rattle.sheet_changes.proofs.orders.put_commitment_ids.Goals as goal
 
 pub returns : goal.returns
 returns c =
     let rows =
-    of_both (λ id. id.now) (λ row. row.id) c.new-ids.result.items c.add_commitments.new.ids.items c.add_commitments-2.new.ids.items
-    c.commitments.result.now c.commitments-2.result.now c.args.old.now.commitments c.args.new.now.commitments c.new-ids.ensures.items
+    of_both (λ id. id.now) (λ row. row.id) c.args.ids.now.items c.add_commitments.new.ids.items c.add_commitments-2.new.ids.items
+    c.commitments.result.now c.commitments-2.result.now c.args.old.now.commitments c.args.new.now.commitments c.requires
     c.commitments.ensures c.commitments-2.ensures
     c.in-Ok.ensures c.in-Ok-add_commitments.ensures in
     are_sorted (λ id. id.now) nat_list_cmp_total exact_bytes (λ a b. texts_ties a.now b.now) c.add_commitments-2.new.ids.items c.sort_unstable.new.self.items c.dedup.new.self.items (commitment_ids c.args.old.now c.args.new.now) rows c.sort_unstable.ensures.permutation c.sort_unstable.ensures.sorted
