@@ -3,7 +3,9 @@ use Rattle.std.proofs.Common.{◌≡◌, ◌≢◌, ◌⊎◌, inl, inr, false, 
 use Rattle.program_input.specs.Faults.{tells_of_reader, tells_of_writer}
 use Rattle.program_input.specs.declared.faults.PlayFault.{PlayFault}
 use Rattle.program_input.specs.declared.faults.PlayFault.TheVariants.{Read, Schedule, Write, OutOfMemory, Refused}
+use Rattle.input_sections.specs.declared.faults.ScheduleCode.TheVariants.{TooLong}
 use Rattle.input_sections.specs.declared.faults.ScheduleFault.{ScheduleFault}
+use Rattle.input_sections.specs.declared.faults.ScheduleFault.TheVariants as sections
 use Rattle.sheet_changes.specs.Changes.{two_sheets_in}
 use Rattle.sheet_changes.specs.declared.faults.SheetsFault.{SheetsFault}
 use Rattle.sheet_changes.specs.declared.faults.SheetsFault.TheVariants.{Input, Unlike}
@@ -22,6 +24,12 @@ same_fault f g is = ap (λ r. Err (fault_in f r)) is
 pub not_promised : (f : PlayFault) → (told f ≡ Ok tt) ⊎ (told f ≡ Err Unlike) → ⊥
 not_promised f (inl is) = cc
 not_promised f (inr is) = cc
+
+pub not_unlike : {P : Type 0} (f : PlayFault) → told f ≡ Err Unlike → P
+not_unlike f is = absurd (cc)
+
+pub never_too_long : ◌≡◌ {A = ScheduleFault} sections.OutOfMemory (sections.Refused TooLong 1) → ⊥
+never_too_long is = cc
 
 pub none_read : {A : Type 0} (f : PlayFault) → ◌≢◌ {A = Result A PlayFault} (Err f) (Err Read) → tells_of_reader {A = A} (Err f) ≡ false
 none_read Read other = absurd (other refl)

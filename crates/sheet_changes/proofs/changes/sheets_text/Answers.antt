@@ -4,7 +4,7 @@ use Rattle.input_sections.specs.declared.faults.ScheduleFault.TheVariants.{OutOf
 use Rattle.program_input.specs.declared.faults.PlayFault.TheVariants.{Refused, Schedule, Write}
 use Rattle.sheet_changes.specs.Changes.{two_sheets_in}
 use Rattle.sheet_changes.specs.declared.faults.SheetsFault.TheVariants.{Input}
-use Rattle.sheet_changes.proofs.InputLaws.{none_read, none_written, not_promised, refused_there, same_fault}
+use Rattle.sheet_changes.proofs.InputLaws.{never_too_long, none_read, none_written, not_promised, not_unlike, refused_there, same_fault}
 use Rattle.sheet_changes.proofs.SaidLaws.{longer_input}
 use Rattle.sheet_changes.proofs.changes.sheets_text.Goals as goal
 
@@ -14,13 +14,13 @@ returns-in-Err g c =
     let no = c.in-Err.ensures.no_other in
     record {
       said = tt;
-      unlike = λ is. absurd (cc);
+      unlike = λ is. not_unlike fault is;
       prefix = λ is. absurd (no.no_write (same_fault fault Write is));
       faults = record {
         section = λ other is.
             let long = c.in-Err.ensures.section other (same_fault fault (Schedule other) is) in
             longer_input (g.R.Source.remaining c.args.reader.now) other long.1 long.0;
-        plain_memory = λ is. let long = (c.in-Err.ensures.section OutOfMemory (same_fault fault (Schedule OutOfMemory) is)).0 in cc;
+        plain_memory = λ is. never_too_long (c.in-Err.ensures.section OutOfMemory (same_fault fault (Schedule OutOfMemory) is)).0;
         unrefused = λ refusal is. no.no_refusal refusal (same_fault fault (Refused refusal) is);
       };
       kept = λ unlike written. refl;
@@ -39,7 +39,7 @@ returns g c =
     let same = sym c.deref.ensures.value in
     record {
       said = tt;
-      unlike = λ is. absurd (cc);
+      unlike = λ is. not_unlike fault is;
       prefix = λ is.
           let part = told.prefix (same_fault fault Write is) in
           (part.0, part.1, part.2, record { input = c.in-Ok.input.items; is_input = c.in-Ok.ensures.whole; are_sheets = ap two_sheets_in same ∙ part.3; is_said = part.4 }, part.5);
