@@ -210,8 +210,10 @@ fn check_event(
     ensures world { OnOk result
         (world.new ≡ (step world.old (event_of (planned_of planned.now))).1) }
 {
-    let event = event_within(alloc, text, planned, from)?;
-    check_made(alloc, world, line, planned, &event, told, latest, warned)
+    match event_within(alloc, text, planned, from) {
+        Ok(event) => check_made(alloc, world, line, planned, &event, told, latest, warned),
+        Err(error) => Err(error),
+    }
 }
 
 /// Does the events that are left of a text in turn, no more than `most`, and answers the fault of the first that is none, or of what
@@ -243,7 +245,7 @@ fn check_events(
             Err(fault) => return Ok(Some(fault)),
         };
         let from = planned.journal_from(rest.from());
-        check_event(
+        let Ok(()) = check_event(
             alloc,
             world,
             here.line(),
@@ -253,7 +255,9 @@ fn check_events(
             told,
             &mut latest,
             warned,
-        )?;
+        ) else {
+            return Err(AllocError);
+        };
         here = rest;
     }
     Ok(None)
@@ -288,7 +292,9 @@ fn check_behind(
         issuer,
         rest,
     } = above;
-    let mut world = opening_world(alloc, voters, observers, agents, sheet, issuer)?;
+    let Ok(mut world) = opening_world(alloc, voters, observers, agents, sheet, issuer) else {
+        return Err(AllocError);
+    };
     check_events(alloc, &mut world, text, rest, most, told, warned)
 }
 

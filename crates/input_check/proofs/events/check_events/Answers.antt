@@ -57,17 +57,17 @@ loop-preserved c =
     let more : c.args.most - c.loop.counter ≡ suc k = omega (arith, c.loop-test.true) in
     let same = ap length c.left.ensures in
     let some : 0 < length (left c.loop.here) = grind (arith, nat_tests, same, c.is_empty.ensures, c.if-is_empty.false) in
-    let said = rw c.line.ensures.value at c.in_ok-check_event.ensures.said in
+    let said = rw c.line.ensures.value at c.in-Ok-check_event.ensures.said in
     let text = c.in-Ok.ensures.text ∙ c.loop.invariant.3.0 in
     let there : c.in-Ok.parts.1.from ≤ length c.in-Ok.parts.1.text = omega (arith, c.from.ensures.value, c.from.ensures.within) in
     let ahead = c.loop.invariant.2 in (
-      said_more c.loop.told.items k c.loop.world c.loop.here _ _ _ _ _ _ more some c.in-Ok.ensures.event said c.in_ok-check_event.ensures.world c.loop.invariant.0,
+      said_more c.loop.told.items k c.loop.world c.loop.here _ _ _ _ _ _ more some c.in-Ok.ensures.event said c.in-Ok-check_event.ensures.world c.loop.invariant.0,
       found_next _ _ k c.loop.here _ _ _ more some c.in-Ok.ensures.event c.loop.invariant.1,
       (
         _,
-        rw c.line.ensures.value at (c.in_ok-check_event.ensures.latest ahead.0 ahead.1),
+        rw c.line.ensures.value at (c.in-Ok-check_event.ensures.latest ahead.0 ahead.1),
         warned_more c.loop.warned.items ahead.0 c.loop.world c.loop.here k _ _ _ _ _ _ more some c.in-Ok.ensures.event
-            (rw c.line.ensures.value at (c.in_ok-check_event.ensures.ahead ahead.0 ahead.1)) c.in_ok-check_event.ensures.world ahead.2,
+            (rw c.line.ensures.value at (c.in-Ok-check_event.ensures.ahead ahead.0 ahead.1)) c.in-Ok-check_event.ensures.world ahead.2,
       ),
       (text, subst (λ t. c.in-Ok.parts.1.from ≤ length t) text there),
     )
