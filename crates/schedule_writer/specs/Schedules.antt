@@ -57,7 +57,8 @@ is_needed other = true
 abbrev pub world_at : ReadSchedule → ℕ → World
 world_at r place = (play (opening r.voters r.observers r.agents r.sheet r.issuer) (map event_of (take place r.events))).1
 
--- The export at a place is answered: by the file of the period, whose cut has just what is due then of all that is journaled.
+-- The export at a place is answered: by the file of the period, whose cut has just each agent's batches before the first that is
+-- not due, of all that is journaled then.
 pub record IsExported (r : ReadSchedule) (place period : ℕ) : Type 0 where
   pub snapshot : Snapshot
   pub answers : slice_get (replies_to r r.events) place ≡ Some (Exported snapshot)
@@ -84,7 +85,7 @@ pub record ClosesEach (r : ReadSchedule) (is : List Item) (last : ℕ) : Type 0 
   pub none_refused : All (λ reply. is_refused reply ≡ false) (replies_to r r.events)
   -- no node learns that a later period is closed
   pub none_later : All (λ reply. IfSome (learned_in reply) (λ period. period ≤ last)) (replies_to r r.events)
-  -- each file that is asked for is shown, and its cut leaves nothing out
+  -- each file that is asked for is shown, and its cut leaves out nothing before an agent's first that is not due
   pub closed : (place node period : ℕ) → slice_get r.events place ≡ Some (PlansExport node period) → IsExported r place period
   -- before each file is asked for, just the batches above its period's close are journaled
   pub due : (place node period : ℕ) → slice_get r.events place ≡ Some (PlansExport node period)
