@@ -292,9 +292,7 @@ fn check_behind(
         issuer,
         rest,
     } = above;
-    let Ok(mut world) = opening_world(alloc, voters, observers, agents, sheet, issuer) else {
-        return Err(AllocError);
-    };
+    let mut world = opening_world(alloc, voters, observers, agents, sheet, issuer)?;
     check_events(alloc, &mut world, text, rest, most, told, warned)
 }
 
