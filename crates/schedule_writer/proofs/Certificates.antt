@@ -20,7 +20,7 @@ use Rattle.metering_model.proofs.FieldLaws.{same_read}
 use Rattle.group_events.specs.Replies.{is_refused}
 use Rattle.schedule_writer.specs.declared.plans.Seen.{Seen}
 use Rattle.schedule_writer.specs.Schedules.{exports_of, files_before, files_of, is_needed, is_start, journals_of, learned_in}
-use Rattle.schedule_writer.specs.Inner.Plans.{Plan, all_seen, behind, behind_all, behind_taken, due_for, is_behind, is_file_of, is_good, is_next, is_turn, one_more_ballot, one_more_batch, one_more_file}
+use Rattle.schedule_writer.specs.Inner.Plans.{Plan, all_seen, behind, behind_all, behind_taken, due_for, is_file_of, is_good, is_next, is_turn, one_more_ballot, one_more_batch, one_more_file}
 
 -- ---- what a test says
 
@@ -49,18 +49,15 @@ not_true false is = refl
 
 -- the event was taken, and this was done behind it
 is_taken : (plan : Plan) (seen next : Seen) (h : Holding) (r : Reply) (e : Planned) → behind plan seen h r e ≡ Some next
-    → (is_good plan.last r ≡ true) × (behind_taken plan seen h r e ≡ Some next)
-is_taken plan seen next h r e is =
-    let good = if_good (is_good plan.last r) (cond (is_behind plan seen r) (behind_taken plan seen h r e) None) next is in
-    (good.0, (if_good (is_behind plan seen r) (behind_taken plan seen h r e) next good.1).1)
+    → (is_good plan seen r ≡ true) × (behind_taken plan seen h r e ≡ Some next)
+is_taken plan seen next h r e is = if_good (is_good plan seen r) (behind_taken plan seen h r e) next is
 
 -- where a period was learned by it, just the batches above its close were journaled
 is_learned : (plan : Plan) (seen next : Seen) (h : Holding) (r : Reply) (e : Planned) (sent : Option ℕ) (period : ℕ) → behind plan seen h r e ≡ Some next
     → r ≡ Delivered sent (Some period) → seen.journaled ≡ due_for plan period
 is_learned plan seen next h r e sent period is learns =
-    let good = if_good (is_good plan.last r) (cond (is_behind plan seen r) (behind_taken plan seen h r e) None) next is in
-    let so = if_good (is_behind plan seen r) (behind_taken plan seen h r e) next good.1 in
-    eqb-true seen.journaled (due_for plan period) (sym (ap (is_behind plan seen) learns) ∙ so.0)
+    let good = sym (ap (is_good plan seen) learns) ∙ (is_taken plan seen next h r e is).0 in
+    eqb-true seen.journaled (due_for plan period) (both_true (nat_le period plan.last) (nat_eq seen.journaled (due_for plan period)) good).1
 
 file_keeps : (b : Bool) (seen : Seen)
     → (seen.journaled ≡ (cond b (record seen { node = seen.node + 1 }) (record seen { node = 0; period = seen.period + 1 })).journaled)
@@ -309,15 +306,16 @@ needed plan seen last w (e ∷ es) is =
 pub IsGood : ℕ → Reply → Type 0
 IsGood last r = (is_refused r ≡ false) × IfSome (learned_in r) (λ period. period ≤ last)
 
-within_last : (last : ℕ) (o : Option ℕ) → option_map_or (λ period. nat_le period last) o true ≡ true → IfSome o (λ period. period ≤ last)
-within_last last (Some period) is = leb-true period last is
-within_last last None is = _
+within_last : (plan : Plan) (seen : Seen) (o : Option ℕ) → option_map_or (λ period. nat_le period plan.last && nat_eq seen.journaled (due_for plan period)) o true ≡ true
+    → IfSome o (λ period. period ≤ plan.last)
+within_last plan seen (Some period) is = leb-true period plan.last (both_true (nat_le period plan.last) (nat_eq seen.journaled (due_for plan period)) is).0
+within_last plan seen None is = _
 
-good : (last : ℕ) (r : Reply) → is_good last r ≡ true → IsGood last r
+good : (plan : Plan) (seen : Seen) (r : Reply) → is_good plan seen r ≡ true → IsGood plan.last r
 unfolding IsGood
-good last r is =
-    let both = both_true (not (is_refused r)) (option_map_or (λ period. nat_le period last) (learned_in r) true) is in
-    (not_true (is_refused r) both.0, within_last last (learned_in r) both.1)
+good plan seen r is =
+    let both = both_true (not (is_refused r)) (option_map_or (λ period. nat_le period plan.last && nat_eq seen.journaled (due_for plan period)) (learned_in r) true) is in
+    (not_true (is_refused r) both.0, within_last plan seen (learned_in r) both.1)
 
 pub all_good : (plan : Plan) (seen last : Seen) (w : World) (es : List Planned) → behind_all plan seen w es ≡ Some last
     → All (IsGood plan.last) (play w (map event_of es)).0
@@ -326,7 +324,7 @@ all_good plan seen last w [] is = All-nil (IsGood plan.last)
 all_good plan seen last w (e ∷ es) is =
     option_and_then_some (λ next. behind_all plan next (step w (event_of e)).1 es) (behind plan seen w.journals (step w (event_of e)).0 e) last is
     (λ next one rest. All-cons (IsGood plan.last) (step w (event_of e)).0 (play (step w (event_of e)).1 (map event_of es)).0
-    (good plan.last _ (is_taken plan seen next _ _ e one).0) (all_good plan next last (step w (event_of e)).1 es rest))
+    (good plan seen _ (is_taken plan seen next _ _ e one).0) (all_good plan next last (step w (event_of e)).1 es rest))
 
 pub good_is : (last : ℕ) (r : Reply) → IsGood last r → (is_refused r ≡ false) × IfSome (learned_in r) (λ period. period ≤ last)
 unfolding IsGood

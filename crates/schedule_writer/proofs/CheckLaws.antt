@@ -1,5 +1,5 @@
 -- What is told of an input, batch by batch.
-use Rattle.std.proofs.Common.{◌≡◌, ◌≤◌, ℕ, List, [], ◌∷◌, ◌++◌, length, drop, map, Result, Ok, Err, refl, sym, ap, ap₂, ◌∙◌, append_assoc, append-nil}
+use Rattle.std.proofs.Common.{◌≡◌, ◌≤◌, ℕ, List, [], ◌∷◌, ◌++◌, length, drop, map, Result, Ok, Err, refl, sym, ap, ap₂, subst, ◌∙◌, append_assoc, append-nil}
 use Rattle.std.specs.Prelude.{OnOk}
 use Rattle.metering_model.specs.Sheet.{Sheet, Issuer}
 use Rattle.metering_model.specs.RatedAlone.{world_before}
@@ -101,3 +101,13 @@ both_on_ok (Err fault) f p q = tt
 pub on_ok : {T E P Q : Type 0} (result : Result T E) → (P → Q) → OnOk result P → OnOk result Q
 on_ok (Ok done) f p = f p
 on_ok (Err fault) f p = tt
+
+pub on_any : {T E P : Type 0} (result : Result T E) → P → OnOk result P
+on_any (Ok done) p = p
+on_any (Err fault) p = tt
+
+pub on_error : {T E : Type 0} (P : Type 0) (result : Result T E) (fault : E) → result ≡ Err fault → OnOk result P
+on_error {T} {E} P result fault is = subst (λ (r : Result T E). OnOk r P) (sym is) tt
+
+pub on_same : {T E X : Type 0} (one other : Result T E) (x y : X) (P : X → Type 0) → one ≡ other → x ≡ y → OnOk other (P y) → OnOk one (P x)
+on_same {T} {E} one other x y P is same so = subst (λ (r : Result T E). OnOk r (P x)) (sym is) (subst (λ z. OnOk other (P z)) (sym same) so)

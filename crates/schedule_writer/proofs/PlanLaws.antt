@@ -27,7 +27,7 @@ use Rattle.schedule_writer.specs.declared.inputs.Offered.{Offered as LentBatch}
 use Rattle.schedule_writer.specs.declared.plans.Plan.{Plan as LentPlan}
 use Rattle.schedule_writer.specs.declared.plans.Seen.{Seen}
 use Rattle.schedule_writer.specs.Inner.Certified.{IsCertified}
-use Rattle.schedule_writer.specs.Inner.Plans.{IsDone, IsDoneNext, Plan, all_seen, behind, behind_all, behind_taken, is_behind, is_next, journals_behind, nothing_seen, offered_of, plan_of}
+use Rattle.schedule_writer.specs.Inner.Plans.{IsDone, IsDoneNext, Plan, all_seen, behind, behind_all, behind_taken, due_for, is_next, journals_behind, nothing_seen, offered_of, plan_of}
 use Rattle.schedule_writer.proofs.JournalLaws.{journals_after}
 
 pub next_is : (p : LentPlan) (seen : Seen) (text : List ℕ) (d : LentBatch) → seen.journaled < length p.batches.now
@@ -61,7 +61,7 @@ cuts_tested b x y is = by_test b (is_same x y) refl is
 -- what was taken was not refused
 pub not_refused : (plan : Plan) (seen next : Seen) (h : Holding) (r : Reply) (e : Planned) → behind plan seen h r e ≡ Some next → is_refused r ≡ false
 not_refused plan seen next h r e is =
-    by_test (is_refused r) (option_map_or (λ period. nat_le period plan.last) (learned_in r) true) (cond (is_behind plan seen r) (behind_taken plan seen h r e) None) is
+    by_test (is_refused r) (option_map_or (λ period. nat_le period plan.last && nat_eq seen.journaled (due_for plan period)) (learned_in r) true) (behind_taken plan seen h r e) is
   where
     by_test : (t good : Bool) (o : Option Seen) → cond (not t && good) o None ≡ Some next → t ≡ false
     by_test false good o so = refl

@@ -63,11 +63,14 @@ fn check_offered(
         return Err(AllocError);
     };
     let event = Event::Journal(offer);
-    match journal_offered(alloc, world, input, offered, Some(above), &event, told) {
+    let checked = match journal_offered(alloc, world, input, offered, Some(above), &event, told) {
         Ok(true) => put_ahead_of(latest, warned, above, &event),
         Ok(false) => Ok(()),
         Err(error) => Err(error),
-    }
+    };
+    // Dropped by a call for the prover's time alone (docs/DECISIONS.md).
+    drop(event);
+    checked
 }
 
 /// Appends what is told of the item that begins at a byte of the input, below so many lines, and what is odd of it, and answers how
@@ -146,7 +149,7 @@ fn check_items(
         if here == input.len() {
             return Ok(());
         }
-        let length = check_item(
+        match check_item(
             alloc,
             world,
             text,
@@ -156,9 +159,13 @@ fn check_items(
             told,
             &mut latest,
             warned,
-        )?;
-        above = lines_more(input, here, here + length, above);
-        here += length;
+        ) {
+            Ok(length) => {
+                above = lines_more(input, here, here + length, above);
+                here += length;
+            }
+            Err(error) => return Err(error),
+        }
     }
     Ok(())
 }

@@ -119,50 +119,6 @@ pub(crate) fn refused(told: Vec<u8>) -> WriteFault
     WriteFault::Refused(told)
 }
 
-/// Journals a batch by its event, or answers why it is refused.
-fn judge_event(
-    alloc: Global,
-    world: &mut World,
-    input: &[u8],
-    offered: &Offered<'_>,
-    event: &Event,
-) -> Result<(), WriteFault>
-    requires from { offered.now.from ≤ length input.now }
-    requires event { event_of event.now ≡ journal_of (offered_of offered.now) }
-    ensures journaled { OnOk result (IsJournaled (answer_to world.old offered.now.text.now)) }
-    ensures world { OnOk result
-        (world.new ≡ (step world.old (journal_of (offered_of offered.now))).1) }
-    ensures refused { IfErr result
-        (IsRefusedOr (IsRefusedNow input.now world.old (offered_of offered.now))) }
-{
-    let mut told = Vec::new(alloc);
-    match journal_offered(alloc, world, input, offered, None, event, &mut told) {
-        Ok(true) => Ok(()),
-        Ok(false) => Err(refused(told)),
-        Err(_) => Err(WriteFault::OutOfMemory),
-    }
-}
-
-/// The same of what its text offers. The event is dropped here, for the prover's time alone (docs/DECISIONS.md).
-fn judge_offer(
-    alloc: Global,
-    world: &mut World,
-    input: &[u8],
-    offered: &Offered<'_>,
-    offer: Offer,
-) -> Result<(), WriteFault>
-    requires from { offered.now.from ≤ length input.now }
-    requires offer { IsOfferOf offered.now.text.now offer }
-    ensures journaled { OnOk result (IsJournaled (answer_to world.old offered.now.text.now)) }
-    ensures world { OnOk result
-        (world.new ≡ (step world.old (journal_of (offered_of offered.now))).1) }
-    ensures refused { IfErr result
-        (IsRefusedOr (IsRefusedNow input.now world.old (offered_of offered.now))) }
-{
-    let event = Event::Journal(offer);
-    judge_event(alloc, world, input, offered, &event)
-}
-
 /// Journals one more batch, and answers what it asks too, or why it is refused.
 fn judge(
     alloc: Global,
@@ -188,8 +144,16 @@ fn judge(
         return Err(WriteFault::OutOfMemory);
     };
     let more = asked_too(sheet, asked, &offer);
-    judge_offer(alloc, world, input, offered, offer)?;
-    Ok(more)
+    let event = Event::Journal(offer);
+    let mut told = Vec::new(alloc);
+    let journaled = journal_offered(alloc, world, input, offered, None, &event, &mut told);
+    // Dropped by a call for the prover's time alone (docs/DECISIONS.md).
+    drop(event);
+    match journaled {
+        Ok(true) => Ok(more),
+        Ok(false) => Err(refused(told)),
+        Err(_) => Err(WriteFault::OutOfMemory),
+    }
 }
 
 /// A group of one node and 64 agents, in which nothing has happened.
@@ -208,27 +172,6 @@ fn world_before(
         Ok(issuer) => World::new(alloc, 1, 0, 64, sheet, issuer),
         Err(error) => Err(error),
     }
-}
-
-/// Puts a batch that was journaled behind those above it.
-fn put_batch<'a>(
-    items: &mut Items<'a>,
-    offered: Offered<'a>,
-    asked: Asked,
-) -> Result<(), WriteFault>
-    ensures batches { OnOk result (map offered_of items.new.batches.items
-        ≡ map offered_of items.old.batches.items ++ offered_of offered.entry ∷ []) }
-    ensures count { OnOk result
-        (length items.new.batches.items ≡ length items.old.batches.items + 1) }
-    ensures closes { OnOk result (items.new.closes.items ≡ items.old.closes.items) }
-    ensures asked { OnOk result (items.new.asked ≡ asked) }
-    ensures fault { IfErr result (λ fault. fault ≡ WriteFault.OutOfMemory) }
-{
-    let Ok(_) = items.batches.push(offered) else {
-        return Err(WriteFault::OutOfMemory);
-    };
-    items.asked = asked;
-    Ok(())
 }
 
 /// Takes the item that begins at a byte of the input, a batch where the world journals it, and answers how many bytes it has.
@@ -262,9 +205,12 @@ fn take_item<'a>(
         },
         Item::Offers(offered) => {
             match judge(alloc, world, sheet, text, input, &offered, items.asked) {
-                Ok(asked) => match put_batch(items, offered, asked) {
-                    Ok(()) => Ok(length),
-                    Err(fault) => Err(fault),
+                Ok(asked) => match items.batches.push(offered) {
+                    Ok(_) => {
+                        items.asked = asked;
+                        Ok(length)
+                    }
+                    Err(_) => Err(WriteFault::OutOfMemory),
                 },
                 Err(fault) => Err(fault),
             }
@@ -304,41 +250,12 @@ fn take_items<'a>(
         if here == input.len() {
             return Ok(());
         }
-        here += take_item(alloc, world, sheet, text, input, here, items)?;
+        match take_item(alloc, world, sheet, text, input, here, items) {
+            Ok(length) => here += length,
+            Err(fault) => return Err(fault),
+        }
     }
     Ok(())
-}
-
-/// Journals the batches from a byte of the input on in turn in a world, in which nothing has happened, and answers what stands there
-/// and what they ask of a group, or which is refused first.
-fn items_by<'a>(
-    alloc: Global,
-    text: &Arc<Vec<u8>>,
-    world: &mut World,
-    sheet: &Sheet,
-    input: &'a [u8],
-    from: usize,
-) -> Result<Items<'a>, WriteFault>
-    requires text { input.now ≡ (arc_value text.now).items }
-    requires from { from ≤ length input.now }
-    ensures found { IfOk result (IsFoundOf (items_in (length input.now) input.now from)) }
-    ensures within { IfOk result (λ r. IsAskedWithin r.asked.agents r.asked.last) }
-    ensures judged { (issuer : model.Issuer) → world.old ≡ world_before sheet.now issuer
-        → IfOk result (λ r. IsJudged sheet.now issuer (map offered_of r.batches.items) world.new
-        r.asked.agents r.asked.last) }
-    ensures refused { (issuer : model.Issuer) → world.old ≡ world_before sheet.now issuer
-        → IfErr result (IsRefusedOr (IsRefusedAmong input.now sheet.now issuer
-        (batches_of (items_in (length input.now) input.now from)))) }
-{
-    let mut items = Items {
-        batches: Vec::new(alloc),
-        closes: Vec::new(alloc),
-        asked: Asked { agents: 1, last: 0 },
-    };
-    match take_items(alloc, text, world, sheet, input, from, &mut items) {
-        Ok(()) => Ok(items),
-        Err(fault) => Err(fault),
-    }
 }
 
 /// Journals the batches from a byte of the input on in turn, in such a group, and answers what stands there and what they ask of
@@ -364,13 +281,19 @@ pub(crate) fn read_items<'a>(
         input.now (arc_value sheet.now) (arc_value issuer.now)
         (batches_of (items_in (length input.now) input.now from)))) }
 {
-    match world_before(alloc, sheet, issuer) {
-        Ok(mut world) => {
-            let items = items_by(alloc, text, &mut world, sheet, input, from);
-            // Dropped by a call for the prover's time alone (docs/DECISIONS.md).
-            drop(world);
-            items
-        }
-        Err(_) => Err(WriteFault::OutOfMemory),
+    let Ok(mut world) = world_before(alloc, sheet, issuer) else {
+        return Err(WriteFault::OutOfMemory);
+    };
+    let mut items = Items {
+        batches: Vec::new(alloc),
+        closes: Vec::new(alloc),
+        asked: Asked { agents: 1, last: 0 },
+    };
+    let taken = take_items(alloc, text, &mut world, sheet, input, from, &mut items);
+    // Dropped by a call for the prover's time alone (docs/DECISIONS.md).
+    drop(world);
+    match taken {
+        Ok(()) => Ok(items),
+        Err(fault) => Err(fault),
     }
 }

@@ -11,7 +11,7 @@ ghost use Rattle.group_events.specs.Events.{event_of};
 ghost use Rattle.group_events.specs.Replies.{reply_of};
 ghost use Rattle.schedule_writer.specs.Checks.{told_of_answer};
 ghost use Rattle.schedule_writer.specs.Refusals.{IsJournaled, answer_to, journal_of, told_of_offered};
-ghost use Rattle.schedule_writer.specs.Inner.Lines.{IsAnswer, IsBadIn, is_of_rule};
+ghost use Rattle.schedule_writer.specs.Inner.Lines.{IsAnswer, IsBadIn};
 ghost use Rattle.schedule_writer.specs.Inner.Plans.{offered_of};
 ghost use Rattle.schedule_writer.specs.Inner.Walks.{IsPlace};
 
@@ -23,23 +23,15 @@ use metering_model::Refusal;
 use schedule_player::World;
 use std::alloc::{AllocError, Global};
 
-/// Whether a refusal is for a rule of the journals.
-fn is_of_rule(refusal: Refusal) -> bool
-    ensures { result ≡ is_of_rule refusal }
-{
-    matches!(refusal, Refusal::BadTarget | Refusal::Unpriced)
-}
-
 /// The index of the record for which a batch is refused, where it is for a rule of the journals. The world is as it was before.
 fn bad_record(world: &World, event: &Event, text: &[u8], refusal: Refusal) -> Option<u16>
     requires event { event_of event.now ≡ Journal (offer_of text.now) }
     requires refused { answer_to world.now text.now ≡ Refused refusal }
     ensures { IsBadIn world.now text.now refusal result }
 {
-    if is_of_rule(refusal) {
-        world.bad_record(event)
-    } else {
-        None
+    match refusal {
+        Refusal::BadTarget | Refusal::Unpriced => world.bad_record(event),
+        _ => None,
     }
 }
 

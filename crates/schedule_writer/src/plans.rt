@@ -7,7 +7,7 @@ ghost use Rattle.metering_model.specs.Schedule.{PlansExport};
 ghost use Rattle.metering_model.specs.Limits.{last_period, most_nodes};
 ghost use Rattle.group_events.specs.Replies.{reply_of};
 ghost use Rattle.schedule_reader.specs.Events.{HasWholeLines, planned_of};
-ghost use Rattle.schedule_writer.specs.Inner.Plans.{IsWithinGroup, all_seen, behind, behind_taken, due_for, is_behind, is_file_of, is_good, is_next, is_turn, one_more_ballot, one_more_batch, one_more_file, plan_of};
+ghost use Rattle.schedule_writer.specs.Inner.Plans.{IsWithinGroup, all_seen, behind, behind_taken, due_for, is_file_of, is_good, is_next, is_turn, one_more_ballot, one_more_batch, one_more_file, plan_of};
 
 use crate::faults::Stop;
 use crate::inputs::Offered;
@@ -76,7 +76,7 @@ impl<'a> Plan<'a> {
             && seen.journaled == self.due_before(period)
     }
 
-    /// Whether the cut of a file has all that is due of what is journaled. Only what lies above the cut before it is looked at.
+    /// Whether the cut of a file has of what is journaled each agent's batches before the first that is not due. Only what lies above the cut before it is looked at.
     fn has_due(&self, alloc: Global, journals: &Store, file: &Snapshot) -> Result<bool, Stop>
         ensures { IfOk result (λ is. is ≡ is_same file.now.to
             (front (plan_of self.now).base journals.now.batches file.now.from file.now.period)) }
@@ -90,7 +90,7 @@ impl<'a> Plan<'a> {
         }
     }
 
-    /// Whether a reply is the file of that period, with all that is due of what is journaled.
+    /// Whether a reply is the file of that period, with such a cut.
     fn is_file_of(
         &self,
         alloc: Global,
@@ -113,29 +113,19 @@ impl<'a> Plan<'a> {
         }
     }
 
-    /// Whether a reply refuses nothing, and tells of no later period that it was learned.
-    fn is_good(&self, reply: &Reply) -> bool
-        ensures { result ≡ is_good self.now.last (reply_of reply.now) }
+    /// Whether a reply refuses nothing, and where it tells of a period that it was learned, this is no later one than the last, and just
+    /// the batches above its `close` are journaled.
+    fn is_good(&self, seen: Seen, reply: &Reply) -> bool
+        ensures { result ≡ is_good (plan_of self.now) seen (reply_of reply.now) }
     {
         match reply {
             Reply::Refused(_) => false,
             Reply::Delivered {
                 learned: Some(period),
                 ..
-            } => period.number() <= self.last,
-            _ => true,
-        }
-    }
-
-    /// Whether just the batches above its `close` are journaled where a reply tells of a period that it was learned.
-    fn is_behind(&self, seen: Seen, reply: &Reply) -> bool
-        ensures { result ≡ is_behind (plan_of self.now) seen (reply_of reply.now) }
-    {
-        match reply {
-            Reply::Delivered {
-                learned: Some(period),
-                ..
-            } => seen.journaled == self.due_before(period.number()),
+            } => {
+                period.number() <= self.last && seen.journaled == self.due_before(period.number())
+            }
             _ => true,
         }
     }
@@ -150,9 +140,7 @@ impl<'a> Plan<'a> {
         }
         Some(Seen {
             journaled: seen.journaled + 1,
-            ballots: seen.ballots,
-            node: seen.node,
-            period: seen.period,
+            ..seen
         })
     }
 
@@ -166,10 +154,8 @@ impl<'a> Plan<'a> {
             return None;
         }
         Some(Seen {
-            journaled: seen.journaled,
             ballots: seen.ballots + 1,
-            node: seen.node,
-            period: seen.period,
+            ..seen
         })
     }
 
@@ -182,17 +168,14 @@ impl<'a> Plan<'a> {
     {
         if seen.node + 1 < self.nodes {
             Seen {
-                journaled: seen.journaled,
-                ballots: seen.ballots,
                 node: seen.node + 1,
-                period: seen.period,
+                ..seen
             }
         } else {
             Seen {
-                journaled: seen.journaled,
-                ballots: seen.ballots,
                 node: 0,
                 period: seen.period + 1,
+                ..seen
             }
         }
     }
@@ -215,10 +198,10 @@ impl<'a> Plan<'a> {
         if !self.is_turn(seen, node, period) {
             return Ok(None);
         }
-        if self.is_file_of(alloc, journals, period, reply)? {
-            Ok(Some(self.with_file(seen)))
-        } else {
-            Ok(None)
+        match self.is_file_of(alloc, journals, period, reply) {
+            Ok(true) => Ok(Some(self.with_file(seen))),
+            Ok(false) => Ok(None),
+            Err(stop) => Err(stop),
         }
     }
 
@@ -237,10 +220,7 @@ impl<'a> Plan<'a> {
             (plan_of self.now) seen journals.now.batches (reply_of reply.now)
             (planned_of event.now)) }
     {
-        if !self.is_good(reply) {
-            return Ok(None);
-        }
-        if !self.is_behind(seen, reply) {
+        if !self.is_good(seen, reply) {
             return Ok(None);
         }
         match event {

@@ -1,6 +1,6 @@
 //! `focusd schedule`: from batches to a schedule that closes their months.
 
-ghost use Rattle.std.specs.Prelude.{◌≡◌, ◌≢◌, ◌+◌, ◌≤◌, ℕ, List, Some, Ok, Err, IfOk, IfErr, IfSome, IsOk, OnOk, OnErr, false, map, max, unwrap_or};
+ghost use Rattle.std.specs.Prelude.{◌≡◌, ◌≢◌, ◌+◌, ◌≤◌, ℕ, List, Some, Ok, Err, IfOk, IfErr, IfSome, IsOk, OnOk, OnErr, false, map, max};
 ghost use Rattle.std.specs.Arc.{arc_value};
 ghost use Rattle.std.specs.Io.KnownBytes.{Appends, IsAtEnd};
 ghost use Rattle.counted_io.specs.Counts.{count_after};
@@ -73,16 +73,6 @@ fn last_closed(asked: u16, least: usize) -> Option<u16>
     }
 }
 
-/// The period that is asked for, or else this one.
-fn asked_for(through: Option<u16>, last: u16) -> u16
-    ensures { result ≡ unwrap_or through last }
-{
-    match through {
-        Some(through) => through,
-        None => last,
-    }
-}
-
 /// The text of a schedule, where it stands the test. It is shared, so that the test copies no batch of it.
 fn certified_text(
     alloc: Global,
@@ -101,12 +91,17 @@ fn certified_text(
         plan.now.voters plan.now.observers agents plan.now.sheet.now issuer.now
         (arc_value text).items) }
 {
-    let text = schedule_for(alloc, plan, agents, input, batch_from)?;
+    let text = match schedule_for(alloc, plan, agents, input, batch_from) {
+        Ok(text) => text,
+        Err(stop) => return Err(stop),
+    };
     let Ok(text) = Arc::new(alloc, text) else {
         return Err(Stop::OutOfMemory);
     };
-    certify(alloc, plan, agents, issuer, &text, &text)?;
-    Ok(text)
+    match certify(alloc, plan, agents, issuer, &text, &text) {
+        Ok(()) => Ok(text),
+        Err(stop) => Err(stop),
+    }
 }
 
 /// The schedule for an input, of which these are the batches, with what they ask, and the numbers of those above each line that
@@ -131,7 +126,7 @@ fn schedule_with(
         (λ text. IsScheduleOf request (Some input.now) input.now (arc_value text).items) }
     ensures fault { IfErr result IsUncertain }
 {
-    let through = asked_for(request.through, asked.last);
+    let through = request.through.unwrap_or(asked.last);
     let least = least_last(request.through, batches.len(), closes);
     let Some(last) = last_closed(through, least) else {
         return Err(WriteFault::TooLong);
@@ -240,25 +235,6 @@ fn refused_for(alloc: Global, text: &[u8], fault: ScheduleFault) -> WriteFault
     }
 }
 
-/// The schedule for an input whose text is shared.
-fn schedule_for_text(
-    alloc: Global,
-    request: Request,
-    text: &Arc<Vec<u8>>,
-    input: &[u8],
-) -> Result<Arc<Vec<u8>>, WriteFault>
-    requires request { IsRequest request }
-    requires text { input.now ≡ (arc_value text.now).items }
-    ensures schedule { IfOk result
-        (λ made. IsScheduleOf request (Some input.now) input.now (arc_value made).items) }
-    ensures fault { IfErr result (IsFaultOf input.now) }
-{
-    match rate_input(alloc, input) {
-        Ok(given) => schedule_of(alloc, request, text, input, given),
-        Err(fault) => Err(refused_for(alloc, input, fault)),
-    }
-}
-
 /// The schedule for an input. It is shared, so that no batch of it is copied.
 fn schedule_for_input(
     alloc: Global,
@@ -270,9 +246,13 @@ fn schedule_for_input(
         (λ made. IsScheduleOf request (Some input.items) input.items (arc_value made).items) }
     ensures fault { IfErr result (IsFaultOf input.items) }
 {
-    match Arc::new(alloc, input) {
-        Ok(text) => schedule_for_text(alloc, request, &text, &text),
-        Err(_) => Err(WriteFault::OutOfMemory),
+    let Ok(text) = Arc::new(alloc, input) else {
+        return Err(WriteFault::OutOfMemory);
+    };
+    let input: &[u8] = &text;
+    match rate_input(alloc, input) {
+        Ok(given) => schedule_of(alloc, request, &text, input, given),
+        Err(fault) => Err(refused_for(alloc, input, fault)),
     }
 }
 
@@ -349,7 +329,11 @@ pub fn schedule_text<R: Source, W: Sink>(
         (R.failed_calls reader.old) (R.failed_calls reader.new)
         (W.failed_calls writer.old) (W.failed_calls writer.new) }
 {
-    let input = input_of(alloc, reader)?;
-    let text = schedule_for_input(alloc, request, input)?;
-    write_text(&text, writer)
+    match input_of(alloc, reader) {
+        Ok(input) => match schedule_for_input(alloc, request, input) {
+            Ok(text) => write_text(&text, writer),
+            Err(fault) => Err(fault),
+        },
+        Err(fault) => Err(fault),
+    }
 }

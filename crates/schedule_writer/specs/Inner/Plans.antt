@@ -64,18 +64,15 @@ abbrev pub is_turn : Plan → Seen → ℕ → ℕ → Bool
 is_turn plan seen node period =
     (node == seen.node) && nat_lt node plan.nodes && (period == seen.period) && nat_le period plan.last && (seen.journaled == due_for plan period)
 
--- whether the reply is the file of that period, with all that is due of what is journaled
+-- whether the reply is the file of that period, with each agent's batches before the first that is not due, of what is journaled
 abbrev pub is_file_of : ℕ → Holding → ℕ → Reply → Bool
 is_file_of base journals p (Exported s) = (s.period == p) && is_same s.to (front base journals s.from p)
 is_file_of base journals p other = false
 
--- whether nothing was refused, and no later period than this one was learned
-abbrev pub is_good : ℕ → Reply → Bool
-is_good last r = not (is_refused r) && option_map_or (λ period. nat_le period last) (learned_in r) true
-
--- whether just the batches above its close are journaled where a period was learned
-abbrev pub is_behind : Plan → Seen → Reply → Bool
-is_behind plan seen r = option_map_or (λ period. seen.journaled == due_for plan period) (learned_in r) true
+-- whether nothing was refused, and where a period was learned, it is no later one than the last, and just the batches above its close are
+-- journaled
+abbrev pub is_good : Plan → Seen → Reply → Bool
+is_good plan seen r = not (is_refused r) && option_map_or (λ period. nat_le period plan.last && (seen.journaled == due_for plan period)) (learned_in r) true
 
 abbrev pub one_more_batch : Seen → Seen
 one_more_batch seen = record seen { journaled = seen.journaled + 1 }
@@ -99,7 +96,7 @@ behind_taken plan seen h r (PlansRevival i ls) = None
 
 -- nothing is planned that is refused, or by which a period is learned that is a later one, or with more or fewer batches than stand above
 abbrev pub behind : Plan → Seen → Holding → Reply → Planned → Option Seen
-behind plan seen h r e = if is_good plan.last r then (if is_behind plan seen r then behind_taken plan seen h r e else None) else None
+behind plan seen h r e = if is_good plan seen r then behind_taken plan seen h r e else None
 
 -- what was done behind these events, where each is what is planned
 unfoldable pub behind_all : Plan → Seen → World → List Planned → Option Seen

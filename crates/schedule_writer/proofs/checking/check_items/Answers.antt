@@ -16,53 +16,46 @@ loop-preserved c =
     let drops = length-drop c.loop.here input in
     let some : 0 < length (drop c.loop.here input) = omega (arith, c.loop.invariant.place.within, c.if-here-input.false, drops) in
     let item = item_at input c.loop.here in
-    let rest = items_in k input (c.loop.here + c.in_ok-length.length) in
+    let rest = items_in k input (c.loop.here + c.in-Ok.length) in
     let next : items_in (length input - c.loop.counter) input c.loop.here ≡ item ∷ rest
     = ap (λ n. items_in n input c.loop.here) more
-    ∙ (item_next k input c.loop.here some ∙ ap (λ n. item ∷ items_in k input (c.loop.here + n)) (sym c.in_ok-length.ensures.length.is_length)) in
+    ∙ (item_next k input c.loop.here some ∙ ap (λ n. item ∷ items_in k input (c.loop.here + n)) (sym c.in-Ok.ensures.length.is_length)) in
     let ahead = c.loop.invariant.ahead in
     record {
-      place = record { within = c.in_ok-length.ensures.length.within; above = c.lines_more-above.ensures };
+      place = record { within = c.in-Ok.ensures.length.within; above = c.lines_more-above.ensures };
       told = told_more input _ c.loop.told.items c.check_item.new.told.items c.loop.world c.check_item.new.world item rest
-          (ap (λ is. c.loop.told.items ++ told_of_batches input c.loop.world (batches_of is)) (sym next) ∙ c.loop.invariant.told) c.in_ok-length.ensures.told
-          c.in_ok-length.ensures.world;
+          (ap (λ is. c.loop.told.items ++ told_of_batches input c.loop.world (batches_of is)) (sym next) ∙ c.loop.invariant.told) c.in-Ok.ensures.told
+          c.in-Ok.ensures.world;
       ahead = (
         _,
-        c.in_ok-length.ensures.latest ahead.0 ahead.1,
+        c.in-Ok.ensures.latest ahead.0 ahead.1,
         ahead_more input _ c.loop.warned.items c.check_item.new.warned.items ahead.0 c.loop.world c.check_item.new.world item rest
             (ap (λ is. c.loop.warned.items ++ ahead_of_all ahead.0 (journaled_of input c.loop.world (batches_of is))) (sym next) ∙ ahead.2)
-            (c.in_ok-length.ensures.ahead ahead.0 ahead.1) c.in_ok-length.ensures.world,
+            (c.in-Ok.ensures.ahead ahead.0 ahead.1) c.in-Ok.ensures.world,
       );
     }
 
-pub returns-then-here-input-clause-told : goal.returns-then-here-input-clause-told
-returns-then-here-input-clause-told c =
+pub returns-then-here-input : goal.returns-then-here-input
+returns-then-here-input c =
     let input = c.args.input.now in
     let drops = length-drop c.loop.here input in
     let none : length (drop c.loop.here input) ≤ 0 = omega (arith, c.if-here-input.true, drops) in
-    sym (append-nil c.loop.told.items)
-    ∙ (ap (λ is. c.loop.told.items ++ told_of_batches input c.loop.world (batches_of is)) (sym (items_end (length input - c.loop.counter) input c.loop.here none))
-    ∙ c.loop.invariant.told)
-
-pub returns-then-here-input-clause-ahead : goal.returns-then-here-input-clause-ahead
-returns-then-here-input-clause-ahead c =
-    let input = c.args.input.now in
-    let drops = length-drop c.loop.here input in
-    let none : length (drop c.loop.here input) ≤ 0 = omega (arith, c.if-here-input.true, drops) in
+    let no_more = items_end (length input - c.loop.counter) input c.loop.here none in
     let ahead = c.loop.invariant.ahead in
-    nothing_ahead input c.loop.warned.items _ ahead.0 c.loop.world _ (items_end (length input - c.loop.counter) input c.loop.here none) ahead.2
+    record {
+      told = sym (append-nil c.loop.told.items)
+          ∙ (ap (λ is. c.loop.told.items ++ told_of_batches input c.loop.world (batches_of is)) (sym no_more) ∙ c.loop.invariant.told);
+      ahead = nothing_ahead input c.loop.warned.items _ ahead.0 c.loop.world _ no_more ahead.2;
+    }
 
-pub returns-clause-told : goal.returns-clause-told
-returns-clause-told c =
+pub returns : goal.returns
+returns c =
     let input = c.args.input.now in
     let none : 0 ≡ length input - c.loop.counter = omega (arith, c.loop-test.false) in
-    sym (append-nil c.loop.told.items)
-    ∙ (ap (λ is. c.loop.told.items ++ told_of_batches input c.loop.world (batches_of is)) (sym (items_none input c.loop.here) ∙ ap (λ n. items_in n input c.loop.here) none)
-    ∙ c.loop.invariant.told)
-
-pub returns-clause-ahead : goal.returns-clause-ahead
-returns-clause-ahead c =
-    let input = c.args.input.now in
-    let none : 0 ≡ length input - c.loop.counter = omega (arith, c.loop-test.false) in
+    let no_more = ap (λ n. items_in n input c.loop.here) (sym none) ∙ items_none input c.loop.here in
     let ahead = c.loop.invariant.ahead in
-    nothing_ahead input c.loop.warned.items _ ahead.0 c.loop.world _ (ap (λ n. items_in n input c.loop.here) (sym none) ∙ items_none input c.loop.here) ahead.2
+    record {
+      told = sym (append-nil c.loop.told.items)
+          ∙ (ap (λ is. c.loop.told.items ++ told_of_batches input c.loop.world (batches_of is)) (sym no_more) ∙ c.loop.invariant.told);
+      ahead = nothing_ahead input c.loop.warned.items _ ahead.0 c.loop.world _ no_more ahead.2;
+    }

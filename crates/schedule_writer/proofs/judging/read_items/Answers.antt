@@ -1,14 +1,15 @@
 use Rattle.std.specs.Arc.{arc_value}
-use Rattle.std.proofs.lemmas.Result.{IfOk-weaker}
+use Rattle.schedule_writer.proofs.JudgedLaws.{nothing_judged}
 use Rattle.schedule_writer.proofs.judging.read_items.Goals as goal
 
-pub returns-in-Ok-clause-taken : goal.returns-in-Ok-clause-taken
-returns-in-Ok-clause-taken c =
-    IfOk-weaker c.items_by-items.result _ _ (λ r so. so.taken) ((rw c.deref.ensures at c.items_by-items.ensures.judged) (arc_value c.args.issuer.now) c.in-Ok.ensures)
+pub returns-in-Ok-taken : goal.returns-in-Ok-taken
+returns-in-Ok-taken c =
+    let issuer = arc_value c.args.issuer.now in
+    let so = (rw c.deref.ensures at c.in-Ok-taken.ensures.judged) issuer (nothing_judged (arc_value c.args.sheet.now) issuer c.in-Ok.world c.in-Ok.ensures) in
+    record { found = c.in-Ok-taken.ensures.found; taken = so.taken; asked = so.asked; within = c.in-Ok-taken.ensures.within; refused = tt }
 
-pub returns-in-Ok-clause-asked : goal.returns-in-Ok-clause-asked
-returns-in-Ok-clause-asked c =
-    IfOk-weaker c.items_by-items.result _ _ (λ r so. so.asked) ((rw c.deref.ensures at c.items_by-items.ensures.judged) (arc_value c.args.issuer.now) c.in-Ok.ensures)
-
-pub returns-in-Ok-clause-refused : goal.returns-in-Ok-clause-refused
-returns-in-Ok-clause-refused c = (rw c.deref.ensures at c.items_by-items.ensures.refused) (arc_value c.args.issuer.now) c.in-Ok.ensures
+pub returns : goal.returns
+returns c =
+    let issuer = arc_value c.args.issuer.now in
+    let refused = (rw c.deref.ensures at c.in-Err.ensures.refused) issuer (nothing_judged (arc_value c.args.sheet.now) issuer c.in-Ok.world c.in-Ok.ensures) in
+    record { found = tt; taken = tt; asked = tt; within = tt; refused = refused }

@@ -22,20 +22,21 @@ schedule_with-requires-clause-read c =
       are_closes = c.deref-in-Ok-3.ensures.value ∙ (c.in-Ok.ensures.found.closes ∙ ap (closes_from 0) same);
     }
 
-pub returns-in-Err-clause-fault : goal.returns-in-Err-clause-fault
-returns-in-Err-clause-fault c =
+pub returns-in-Err : goal.returns-in-Err
+returns-in-Err c =
     let input = c.args.input.now in
     let from = c.args.batch_from in
     let sheet = arc_value c.args.sheet.now in
     let issuer = arc_value c.args.issuer.now in
     let same = items_behind input from sheet issuer c.requires.given.within in
-    refused_fault input (record { sheet = sheet; issuer = issuer; batch = drop from input }) _ _ _ _ c.requires.given.is_read refl refl (ap batches_of same) c.in-Err.ensures.refused
+    record {
+      schedule = tt;
+      fault = refused_fault input (record { sheet = sheet; issuer = issuer; batch = drop from input }) _ _ _ _ c.requires.given.is_read refl refl (ap batches_of same)
+          c.in-Err.ensures.refused;
+    }
 
-pub returns-in-Ok-clause-schedule : goal.returns-in-Ok-clause-schedule
-returns-in-Ok-clause-schedule c = c.schedule_with.ensures.schedule
-
-pub returns-in-Ok-clause-fault : goal.returns-in-Ok-clause-fault
-returns-in-Ok-clause-fault c =
+pub returns-in-Ok : goal.returns-in-Ok
+returns-in-Ok c =
     let input = c.args.input.now in
     let from = c.args.batch_from in
     let sheet = arc_value c.args.sheet.now in
@@ -43,4 +44,7 @@ returns-in-Ok-clause-fault c =
     let same = items_behind input from sheet issuer c.requires.given.within in
     let taken = is_taken input (record { sheet = sheet; issuer = issuer; batch = drop from input }) _ _ _ c.requires.given.is_read refl refl
     (c.in-Ok.ensures.found.batches ∙ ap batches_of same) c.in-Ok.ensures.taken in
-    IfErr-weaker c.schedule_with.result _ _ (uncertain input taken) c.schedule_with.ensures.fault
+    record {
+      schedule = c.schedule_with.ensures.schedule;
+      fault = IfErr-weaker c.schedule_with.result _ _ (uncertain input taken) c.schedule_with.ensures.fault;
+    }

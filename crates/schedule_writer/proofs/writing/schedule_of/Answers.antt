@@ -9,11 +9,11 @@ schedule_by-requires-clause-given c = record {
   within = c.requires.given.within;
 }
 
-pub returns-in-Err-clause-fault : goal.returns-in-Err-clause-fault
-returns-in-Err-clause-fault c = subst (IsFaultOf c.args.input.now) (sym c.in-Err.ensures.fault) tt
+pub returns-in-Err : goal.returns-in-Err
+returns-in-Err c = record { schedule = tt; fault = subst (IsFaultOf c.args.input.now) (sym c.in-Err.ensures.fault) tt }
 
-pub returns-in-Ok-shared-clause-schedule : goal.returns-in-Ok-shared-clause-schedule
-returns-in-Ok-shared-clause-schedule c = c.schedule_by.ensures.schedule
+pub returns : goal.returns
+returns c = record { schedule = tt; fault = subst (IsFaultOf c.args.input.now) (sym c.in-Err-shared.ensures.fault) tt }
 
-pub returns-in-Ok-shared-clause-fault : goal.returns-in-Ok-shared-clause-fault
-returns-in-Ok-shared-clause-fault c = c.schedule_by.ensures.fault
+pub returns-in-Ok-shared : goal.returns-in-Ok-shared
+returns-in-Ok-shared c = record { schedule = c.schedule_by.ensures.schedule; fault = c.schedule_by.ensures.fault }

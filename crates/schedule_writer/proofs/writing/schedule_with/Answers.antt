@@ -15,5 +15,5 @@ returns-in-Ok-clause-schedule c =
       batches = c.args.batches;
       closes = c.args.closes;
     } in
-    scheduled c.args.request c.args.input.now (arc_value c.in-Ok.text).items plan c.args.issuer.now c.args.asked.agents c.args.asked.last c.asked_for-through.result c.requires.read
-    c.requires.asked refl refl refl c.asked_for-through.ensures (rw c.least_last-least.ensures at c.in-Some.ensures.0) c.in-Ok.ensures
+    scheduled c.args.request c.args.input.now (arc_value c.in-Ok.text).items plan c.args.issuer.now c.args.asked.agents c.args.asked.last c.unwrap_or-through.result c.requires.read
+    c.requires.asked refl refl refl c.unwrap_or-through.ensures (rw c.least_last-least.ensures at c.in-Some.ensures.0) c.in-Ok.ensures
