@@ -81,10 +81,10 @@ class Log:
         self.cut_to(b"".join(lines[: line - 1]))
 
     def cut_to(self, text):
-        """Has what is left of it, and says how much went."""
+        """Says how much goes, and has what is left of it: a host that ends between the two has said so, and the next one says it again."""
         torn = os.path.getsize(self.path) - len(text)
-        self.renew(text)
         print(f"{os.path.basename(self.room)}: a torn end of {torn} bytes is cut off its log", flush=True)
+        self.renew(text)
 
     def look(self, size):
         """It is as long as it was left, once this host has read it."""
