@@ -99,8 +99,9 @@ impl OwnedBatch {
         &self.amendments
     }
 
-    /// The value that the batch gives the reading at that sequence and index of its agent: that of its last amendment
-    /// of it, or else, where the reading is one of the batch itself, the reading's own; else None.
+    /// The value that the batch gives the reading at that sequence and index of its agent: that of the last of its
+    /// records that is the reading or amends it. An amendment above a reading of the same batch changes nothing of it.
+    /// None where no record is or amends it.
     pub fn value_given(&self, seq: u32, index: u16) -> Option<Value>
         ensures { result ≡ value_given_in (batch_of self.now) seq index }
     {

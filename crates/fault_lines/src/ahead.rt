@@ -192,7 +192,7 @@ impl LatestDays {
         ensures said { (journaled : List Batch) → AreLatest self.old journaled
             → OnOk result (told.new.items
             ≡ told.old.items ++ ahead_of journaled lines (batch_of batch.now)) }
-        ensures kept { (journaled : List Batch) → AreLatest self.old journaled
+        ensures latest { (journaled : List Batch) → AreLatest self.old journaled
             → OnOk result (AreLatest self.new (batch_of batch.now ∷ journaled)) }
     {
         let place = usize::from(batch.agent() - 1);

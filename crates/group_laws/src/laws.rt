@@ -53,8 +53,9 @@ pub fn every_run_keeps_its_limits()
 
 /// Without what happens at its observers a group has the same journals, and its voters keep, try and count the same:
 /// after the very events that are left, unless a packet of an observer was delivered to a voter, or something refused
-/// for a full world; and after some events, none at an observer, with the same chosen cuts and the same replies, but
-/// for the numbers of packets and for what a full world refused.
+/// for a full world; and after some events, none at an observer, with the same chosen cuts. Of these the replies at
+/// voters and to agents are those of the group, in order, but for the numbers of packets and for what a full world
+/// refused; between them stand deliveries that send and learn nothing.
 pub fn observers_change_nothing()
     ensures follows { (room voters observers agents : ℕ) (sheet : Sheet) (issuer : Issuer)
         (events others : List Event) →

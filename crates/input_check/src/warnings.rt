@@ -22,7 +22,7 @@ fn put_handed_in(
     ensures said { (journaled : List Batch) → AreLatest latest.old journaled → OnOk result
         (warned.new.items ≡ warned.old.items
         ++ ahead_of_all journaled (handed_in line (event_of event.now))) }
-    ensures kept { (journaled : List Batch) → AreLatest latest.old journaled → OnOk result
+    ensures latest { (journaled : List Batch) → AreLatest latest.old journaled → OnOk result
         (AreLatest latest.new (with_counted (handed_in line (event_of event.now)) journaled)) }
 {
     match event {
@@ -46,7 +46,7 @@ pub(crate) fn put_ahead_of(
         → OnOk result (warned.new.items
         ≡ warned.old.items ++ ahead_of_all journaled
         (counted_of line (event_of event.now) (reply_of reply.now))) }
-    ensures kept { (journaled : List Batch) → AreLatest latest.old journaled → OnOk result
+    ensures latest { (journaled : List Batch) → AreLatest latest.old journaled → OnOk result
         (AreLatest latest.new (with_counted
         (counted_of line (event_of event.now) (reply_of reply.now)) journaled)) }
 {

@@ -76,7 +76,7 @@ pub enum BatchCode {
     /// V1: no head line within the limits.
     #[error("V1")]
     Head,
-    /// V2: fewer or more lines than the head counts, or a line without its line feed.
+    /// V2: fewer or more lines than the head counts, or a record's line without its line feed.
     #[error("V2")]
     Count,
     /// V3: no such kind of record, or another number of fields than it has.
@@ -88,7 +88,7 @@ pub enum BatchCode {
     /// V5: no number within the limits of its field.
     #[error("V5")]
     Number,
-    /// V6: a byte that is no text, or a text that is empty or not empty against its rule.
+    /// V6: outside the tags, a byte that is no text, or a text that is empty or not empty against its rule.
     #[error("V6")]
     Text,
     /// V7: tags of another form, or whose keys do not rise.

@@ -228,9 +228,10 @@ impl Book {
             && self.issuer.same(&plan.issuer)
     }
 
-    /// Whether these logs are just what the history has, and what the plan asks: each worker of the plan, and no other,
-    /// has a log of its own entries, each once and in order; each agent offered its texts to the journals, and each
-    /// node exported each period once. Where it is so, all files of one period are the same bytes.
+    /// Whether the book was opened for the plan's group and these logs are just what its history has, and what the plan
+    /// asks: each worker of the plan, and no other, has a log of its own entries, each once and in order, and nobody else
+    /// has an entry; each agent offered its texts to the journals, and each node exported each period once. Where it is
+    /// so, all files of one period are the same bytes.
     pub fn agrees(&self, plan: &Plan, logs: &[Log]) -> bool
         ensures agrees { IsTrue result ↔ Agree self.now (plan_of plan.now) (map log_of logs.now) }
         ensures files { IsTrue result → FilesAgree (map log_of logs.now) }

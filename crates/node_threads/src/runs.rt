@@ -60,7 +60,7 @@ pub enum RunFault {
     /// N1: out of memory, or a thread could not be started.
     #[error("out of memory")]
     OutOfMemory,
-    /// N2: what the workers brought back is not what stands in the book or what the plan asks, or the last file lacks batches.
+    /// N2: what the workers brought back is not what stands in the book or what the plan asks, a full world refused something, or the last file lacks batches.
     #[error("mismatch")]
     Mismatch,
 }

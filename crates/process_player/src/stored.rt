@@ -31,7 +31,7 @@ fn log_lines(line: &[u8]) -> Option<u64>
 /// What is kept by a log, which has to be of this head: another's is refused as that before anything else of it is read.
 fn kept_of(alloc: Global, head: &LogHead, text: &[u8]) -> Result<Kept, ProcessFault>
     requires { IsLogHead head.now }
-    ensures kept { IfOk result
+    ensures read { IfOk result
         (λ kept. log_in text.now ≡ Ok (record { head = head.now; kept = kept })) }
     ensures refused { IfErr result (RejectsLog head.now text.now) }
 {

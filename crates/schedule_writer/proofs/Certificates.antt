@@ -369,7 +369,8 @@ learned plan seen last w (e ∷ es) is (suc k) period sent learns =
 
 -- ---- which files are shown
 
--- the export at a place is answered by the file of the period, with all that is due of what is journaled by then
+-- the export at a place is answered by the file of the period, with what is journaled by then, of each agent up to its first batch
+-- that is not due
 pub record IsShown (base : ℕ) (w : World) (es : List Planned) (place period : ℕ) : Type 0 where
   pub snapshot : Snapshot
   pub answers : slice_get (play w (map event_of es)).0 place ≡ Some (Exported snapshot)

@@ -21,7 +21,7 @@ pub(crate) fn put_ahead_of(
     ensures said { (before : List Batch) → AreLatest latest.old before → OnOk result
         (warned.new.items ≡ warned.old.items
         ++ ahead_of_all before (handed_in lines (event_of event.now))) }
-    ensures kept { (before : List Batch) → AreLatest latest.old before → OnOk result
+    ensures latest { (before : List Batch) → AreLatest latest.old before → OnOk result
         (AreLatest latest.new (with_journaled (handed_in lines (event_of event.now)) before)) }
 {
     match event {

@@ -201,9 +201,9 @@ pub fn rules_are_kept()
         → MeetsJournalRules old h → MeetsJournalRules new h }
 {}
 
-/// How a sheet comes to go on from another: it has the same price rows from before the day, but for any that begin
-/// before all of their SKU in the old one, a price in force where a row of the old one begins, and each of its
-/// commitments and regions. So it has all that the other laws ask of two sheets, but that it keeps a reader's rules
+/// How a sheet comes to go on from another: it has the same base month and the same price rows from before the day, but
+/// for any that begin before all of their SKU in the old one, a price in force where a row of the old one begins, and
+/// each of its commitments and regions. So it has all that the other laws ask of two sheets, but that it keeps a reader's rules
 /// (`IsSheet`), and that a region which the old one does not name is not named by it either. Of sheets that each go on
 /// from the one before up to one day, the last goes on from the first up to it, and up to each earlier day; and it names
 /// alike what each of them does.

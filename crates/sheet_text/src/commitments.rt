@@ -13,7 +13,7 @@ use std::alloc::Global;
 use std::marker::Model;
 use toml::Table;
 
-/// A discount on the usage of a SKU, which is bought as another.
+/// A discount on the usage of the SKU `sku`, which is bought as the SKU `buy`; the two may be one.
 #[derive(Drop)]
 pub struct Commitment {
     id: String,

@@ -9,7 +9,7 @@ pub enum ThreadsFault {
     /// An allocation failed or a thread could not be started, in the run (N1) or beside it.
     #[error("out of memory")]
     OutOfMemory,
-    /// The receipts of the run do not agree, or its last file lacks batches (N2).
+    /// The receipts of the run do not agree, a full world refused something, or its last file lacks batches (N2).
     #[error("mismatch")]
     Mismatch,
     /// A call of the writer failed.

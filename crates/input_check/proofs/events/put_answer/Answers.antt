@@ -19,5 +19,5 @@ pub returns : goal.returns
 returns c = record {
   said = in_any_case c.put_ahead_of.result c.in_ok-put_reply.ensures;
   ahead = c.put_ahead_of.ensures.said;
-  latest = c.put_ahead_of.ensures.kept;
+  latest = c.put_ahead_of.ensures.latest;
 }

@@ -11,5 +11,5 @@ returns-in_default c =
     let none = no_batch_journaled c.args.line (event_of c.args.event.now) c.args.reply.now c.in_default.not-Journaled in
     record {
       said = λ journaled latest. still c.args.warned.now.items _ (ap (ahead_of_all journaled) none ∙ ahead_of_none journaled);
-      kept = λ journaled latest. subst (λ xs. AreLatest c.args.latest.now (with_counted xs journaled)) (sym none) latest;
+      latest = λ journaled latest. subst (λ xs. AreLatest c.args.latest.now (with_counted xs journaled)) (sym none) latest;
     }

@@ -23,5 +23,5 @@ returns-in_default c =
     let none = no_batch_handed_in c.args.line c.args.event.now c.in_default.not-Journal in
     record {
       said = λ journaled latest. still c.args.warned.now.items _ (ap (ahead_of_all journaled) none ∙ ahead_of_none journaled);
-      kept = λ journaled latest. subst (λ xs. AreLatest c.args.latest.now (with_counted xs journaled)) (sym none) latest;
+      latest = λ journaled latest. subst (λ xs. AreLatest c.args.latest.now (with_counted xs journaled)) (sym none) latest;
     }

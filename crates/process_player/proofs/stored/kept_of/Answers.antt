@@ -3,8 +3,8 @@ use Rattle.std.proofs.Common.{Ok, sym, ap, ◌∙◌}
 use Rattle.process_player.proofs.StoredLaws.{same_head}
 use Rattle.process_player.proofs.stored.kept_of.Goals as goal
 
-pub returns-in-Ok-clause-kept : goal.returns-in-Ok-clause-kept
-returns-in-Ok-clause-kept c =
+pub returns-in-Ok-clause-read : goal.returns-in-Ok-clause-read
+returns-in-Ok-clause-read c =
     let log = c.in-Ok.log in
     let own = sym c.in-Ok-true.ensures ∙ c.in-Ok-true.field-0-test in
     c.in-Ok.ensures.read

@@ -49,7 +49,7 @@ pub returns : goal.returns
 returns g c = record {
   taken = let end = c.in-Some.end in
       let all = c.in-Some-2.all in
-      let read = ap (λ t. log_in (take (all - end) (drop end t))) (sym c.ahead-3.ensures) ∙ c.in_ok-kept.ensures.kept ∙ ap (λ h. Ok (record { head = h; kept = c.in_ok-kept.kept })) c.head.ensures in
+      let read = ap (λ t. log_in (take (all - end) (drop end t))) (sym c.ahead-3.ensures) ∙ c.in_ok-kept.ensures.read ∙ ap (λ h. Ok (record { head = h; kept = c.in_ok-kept.kept })) c.head.ensures in
       let in_some = (goal.at.returns g c).In-Some in
       let lines = rw c.in-Some-2.is at c.in_ok-all.ensures.found in
       log_taken c.args.own.now c.mark.ensures.bytes c.lines_end.ensures.takes (first g in_some) c.lines_end-2.ensures.takes lines

@@ -40,7 +40,7 @@ returns c =
             latest = λ before latest.
                 on_same joined.checked put.result joined.latest put.new.latest
                 (λ l. AreLatest l (with_journaled (if_journaled input b (answer_to w b.text)) before)) v.checked-is v.latest-is
-                (subst (λ (xs : List (ℕ × Batch)). OnOk put.result (AreLatest put.new.latest (with_journaled xs before))) same (put.ensures.kept before latest));
+                (subst (λ (xs : List (ℕ × Batch)). OnOk put.result (AreLatest put.new.latest (with_journaled xs before))) same (put.ensures.latest before latest));
             world = on_any joined.checked v.in-Ok-true.ensures.world;
           }
       | in-Ok-false v ↦

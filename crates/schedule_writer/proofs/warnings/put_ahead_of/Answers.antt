@@ -23,5 +23,5 @@ returns-in_default c =
     let none = no_batch_handed_in c.args.lines c.args.event.now c.in_default.not-Journal in
     record {
       said = λ before latest. still c.args.warned.now.items _ (ap (ahead_of_all before) none ∙ ahead_of_none before);
-      kept = λ before latest. subst (λ xs. AreLatest c.args.latest.now (with_journaled xs before)) (sym none) latest;
+      latest = λ before latest. subst (λ xs. AreLatest c.args.latest.now (with_journaled xs before)) (sym none) latest;
     }

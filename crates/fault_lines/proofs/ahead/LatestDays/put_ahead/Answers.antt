@@ -19,6 +19,6 @@ returns c =
     ap (λ n. slice_index_or c.self.inside.days n None) at ∙ get_or_from_slice_get c.self.inside.days (b.agent - 1) (latest (days_of b.agent journaled)) None (there journaled are b.agent low high) in
     record {
       said = λ journaled are. c.in-Ok.ensures.told (days_of b.agent journaled) (here journaled are);
-      kept = λ journaled are.
+      latest = λ journaled are.
           kept b journaled c.self.inside.days c.from-place.result c.in-Ok.latest low high at (c.in-Ok.ensures.latest (days_of b.agent journaled) (here journaled are)) (there journaled are);
     }
