@@ -1,6 +1,6 @@
 -- What is kept stays within its limits with each increment.
-use Rattle.std.proofs.Common.{◌≡◌, ℕ, zero, suc, ◌≤◌, Bool, true, false, List, [], ◌∷◌, length, IsTrue, Some, refl, sym, subst, arith}
-use Rattle.std.proofs.lemmas.Bool.{false_from_ne_true}
+use Rattle.std.proofs.Common.{◌≡◌, ℕ, zero, suc, ◌≤◌, Bool, true, false, List, [], ◌∷◌, length, IsTrue, Some, None, refl, sym, ap, ◌∙◌, subst, arith}
+use Rattle.std.proofs.lemmas.Bool.{cond-true, cond-false, false_from_ne_true}
 use Rattle.std.proofs.lemmas.List.{length-append}
 use Rattle.std.proofs.lemmas.List.Elements.{All-nil, All-cons, All-append}
 use Rattle.std.proofs.lemmas.Option.{same_Some, none-some}
@@ -13,8 +13,18 @@ use Rattle.metering_model.specs.KeptText.{KeptAmong, IsBallotNumber, ballot_numb
 use Rattle.metering_model.specs.Limits.{last_ballot, most_rounds}
 use Rattle.metering_model.proofs.FieldLaws.{same_read}
 use Rattle.node_kept.specs.Kept.{IsKept}
-use Rattle.log_text.specs.LogText.{BeginsRound, SetsBallots, Learns, Takes, among_with}
-use Rattle.log_text.specs.Inner.Reading.{IsPromise, IsVoteAmong}
+use Rattle.log_text.specs.LogText.{Increment, BeginsRound, SetsBallots, Learns, Takes, among_with, goes_on}
+use Rattle.log_text.specs.Inner.Reading.{IsPromise, IsVoteAmong, gone_on}
+
+-- ---- what is added
+
+pub added : (k next : KeptAmong) (i : Increment) → goes_on i k ≡ true → next ≡ among_with i k → IsKept (among_with i k) → (gone_on k (Some i) ≡ Some next) × IsKept next
+added k next i goes is kept = (cond-true (goes_on i k) (Some (among_with i k)) None goes ∙ ap Some (sym is), subst IsKept (sym is) kept)
+
+pub not_added : (k : KeptAmong) (i : Increment) → goes_on i k ≡ false → gone_on k (Some i) ≡ None
+not_added k i not = cond-false (goes_on i k) (Some (among_with i k)) None not
+
+-- ---- its limits
 
 pub round_kept : (k : KeptAmong) (round : ℕ) → IsKept k → round ≤ most_rounds → IsKept (among_with (BeginsRound round) k)
 round_kept k round is low = record { round = low; periods = is.periods; cuts = is.cuts; promised = is.promised; vote = is.vote }

@@ -1,20 +1,27 @@
 -- A log is read increment by increment, from its head line to its end.
-use Rattle.std.proofs.Common.{◌≡◌, ℕ, zero, suc, ◌+◌, ◌-◌, ◌<◌, ◌≤◌, ◌&&◌, true, false, List, [], ◌∷◌, length, Result, Ok, Err, cond, refl, sym, ap, ap₂, ◌∙◌, arith, nat_le, le-leb}
+use Rattle.std.proofs.Common.{◌≡◌, ℕ, zero, suc, ◌+◌, ◌-◌, ◌<◌, ◌≤◌, ◌&&◌, Bool, true, false, List, [], ◌∷◌, length, take, drop, Option, Some, None, Result, Ok, Err, cond, refl, sym, ap, ap₂, subst, ◌∙◌, arith, nat_le, le-leb}
+use Rattle.std.specs.Prelude.{codes}
+use Rattle.std.specs.Option.{option_map}
+use Rattle.std.proofs.lemmas.Option.{none-some, same_Some}
 use Rattle.metering_model.specs.FirstFailure.{◌>>=◌, holds_or}
-use Rattle.metering_model.specs.Batch.{is_empty}
+use Rattle.metering_model.specs.Limits.{most_journal_lines}
+use Rattle.metering_model.specs.Batch.{Batch, is_empty}
 use Rattle.metering_model.specs.BatchReading.{Lines, fields_in, lines_in, with_line}
 use Rattle.metering_model.specs.KeptText.{KeptAmong}
+use Rattle.byte_text.specs.Lines.{IsPast}
+use Rattle.byte_text.proofs.LineFeeds.{few}
 use Rattle.node_kept.specs.Kept.{IsKept}
 use Rattle.node_kept.proofs.WholeTexts.{nothing_left}
+use Rattle.packet_text.proofs.OptionSteps.{chosen_first, mapped_some}
 use Rattle.log_text.specs.LogText.{ReadBase, Increment, BeginsRound, SetsBallots, Learns, Takes, KeptThere, LogCode, LogHead, LogTextFault, ReadLog}
-use Rattle.log_text.specs.LogText.{BadHead, BadIncrement, TooLong, Torn, among_with, at_log_line, first_increment, base_in, goes_on, head_in}
-use Rattle.log_text.specs.LogText.{increments_in, lines_of_increment, log_below, log_in, log_of_lines, most_log_bytes}
-use Rattle.log_text.specs.Faults.{IsFaultOf}
+use Rattle.log_text.specs.LogText.{BadHead, BadIncrement, BadKept, TooLong, Torn, among_with, at_log_line, first_increment, base_in, goes_on, head_in}
+use Rattle.log_text.specs.LogText.{increments_in, line_increment_in, lines_of_increment, log_below, log_in, log_of_lines, most_log_bytes, section_in}
+use Rattle.log_text.specs.Faults.{BeginsWithHead, IsFaultOf, first_head}
 use Rattle.log_text.specs.declared.faults.LogFault.{LogFault}
 use Rattle.log_text.specs.declared.faults.LogFault.TheVariants.{Refused, OutOfMemory}
-use Rattle.byte_text.proofs.LineFeeds.{few}
+use Rattle.log_text.specs.Inner.Reading.{HasNoStep, IfTold, IsBaseText, IsFirst, IsStep, all_below, base_before, base_of, batch_of_text, gone_on, kept_below, when_whole}
 use Rattle.log_text.proofs.WrittenLines.{feeds_end_lines}
-use Rattle.log_text.specs.Inner.Reading.{HasNoStep, IfTold, IsFirst, IsBase, IsStep, all_below, kept_below, when_whole}
+use Rattle.log_text.proofs.ReadSections.{batch_count, batch_first, is_torn, line_first, no_batch, no_line, one_line}
 
 -- ---- one step
 
@@ -45,6 +52,66 @@ pub refused_step : (k : KeptAmong) (line : ℕ) (here below left : List ℕ) (i 
 refused_step k line here below left i first lacking = λ most.
     ap (λ (r : Result (Increment × List (List ℕ)) LogCode). at_log_line line r >>= behind_first most line k) first.read
     ∙ ap (λ b. at_log_line line (holds_or b BadIncrement) >>= λ u. increments_in most (line + lines_of_increment i) (among_with i k) (lines_in left).lines) lacking
+
+-- ---- what was added, or not
+
+-- what was added was there, and goes on
+gone : (k next : KeptAmong) (o : Option Increment) → gone_on k o ≡ Some next → (i : Increment) × (o ≡ Some i) × (goes_on i k ≡ true) × (next ≡ among_with i k)
+gone k next None e = absurd (none-some next e)
+gone k next (Some i) e = let t = chosen_first (goes_on i k) (Some (among_with i k)) next e in (i, refl, t.0, sym (same_Some (among_with i k) next t.1))
+
+not_gone : {A : Type 0} (b : Bool) (x : A) → cond b (Some x) None ≡ None → b ≡ false
+not_gone true x e = absurd (none-some x (sym e))
+not_gone false x e = refl
+
+step_of : (k next : KeptAmong) (here below left : List ℕ) (o : Option Increment) (lines : ℕ) → gone_on k o ≡ Some next → IsKept next → ((i : Increment) → o ≡ Some i → IsFirst k.agents here below i left × (lines ≡ lines_of_increment i))
+    → IsStep k here below next lines left
+step_of k next here below left o lines e is first =
+    let g = gone k next o e in
+    let f = first g.0 g.1 in
+    record { increment = g.0; first = f.0; goes = g.2; kept = g.3; lines_of = f.1; is_kept = is }
+
+no_step_of : (k : KeptAmong) (line : ℕ) (here below left : List ℕ) (o : Option Increment) → gone_on k o ≡ None → (o ≡ None → first_increment k.agents here (lines_in below).lines ≡ Err BadIncrement)
+    → ((i : Increment) → o ≡ Some i → IsFirst k.agents here below i left) → HasNoStep k line here below (record { code = BadIncrement; line = line })
+no_step_of k line here below left None e none first = unread_step k line here below (record { code = BadIncrement; line = line }) (ap (at_log_line line) (none refl))
+no_step_of k line here below left (Some i) e none first = refused_step k line here below left i (first i refl) (not_gone (goes_on i k) (among_with i k) e)
+
+module _ (k : KeptAmong) (line : ℕ) (here below : List ℕ) where
+  -- by the line alone
+  module _ (none : section_in (codes "batch ") most_journal_lines here ≡ None) where
+    abbrev alone : Option Increment
+    alone = line_increment_in k.agents (fields_in here)
+
+    pub line_step : (next : KeptAmong) → (gone_on k alone ≡ Some next) × IsKept next → IsStep k here below next 1 below
+    line_step next e = step_of k next here below below alone 1 e.0 e.1 (λ i read. (line_first k.agents here below i none read, sym (one_line k.agents (fields_in here) i read)))
+
+    pub no_line_step : gone_on k alone ≡ None → HasNoStep k line here below (record { code = BadIncrement; line = line })
+    no_line_step e = no_step_of k line here below below alone e (no_line k.agents here below none) (λ i read. line_first k.agents here below i none read)
+
+  -- by the lines that it says to be below it
+  module _ (n : ℕ) (said : section_in (codes "batch ") most_journal_lines here ≡ Some n) where
+    pub torn_step : length (lines_in below).lines < n → HasNoStep k line here below (record { code = Torn; line = line })
+    torn_step low = unread_step k line here below (record { code = Torn; line = line }) (ap (at_log_line line) (is_torn k.agents here below n said low))
+
+    module _ (at : ℕ) (past : IsPast below n at) (front left : List ℕ) (is_front : front ≡ take at below) (is_left : left ≡ drop at below) where
+      abbrev batch : Option Increment
+      batch = option_map Takes (batch_of_text n front)
+
+      batch_there : (i : Increment) → batch ≡ Some i → IsFirst k.agents here below i left × (1 + n ≡ lines_of_increment i)
+      batch_there i read =
+          let b = mapped_some Takes (batch_of_text n front) i read in
+          subst (λ j. IsFirst k.agents here below j left × (1 + n ≡ lines_of_increment j)) b.2
+          (batch_first k.agents here below n said at past front is_front b.0 left b.1 is_left, ap (λ m. 1 + m) (batch_count n front b.0 b.1))
+
+      pub batch_step : (next : KeptAmong) (lines : ℕ) → lines ≡ n → (gone_on k batch ≡ Some next) × IsKept next → IsStep k here below next (1 + lines) left
+      batch_step next lines same e = step_of k next here below left batch (1 + lines) e.0 e.1 (λ i read. let f = batch_there i read in (f.0, ap (λ m. 1 + m) same ∙ f.1))
+
+      pub no_batch_step : gone_on k batch ≡ None → HasNoStep k line here below (record { code = BadIncrement; line = line })
+      no_batch_step e = no_step_of k line here below left batch e (λ none. no_batch k.agents here below n said at past front is_front (unmapped (batch_of_text n front) none)) (λ i read. (batch_there i read).0)
+        where
+          unmapped : (o : Option Batch) → option_map Takes o ≡ None → o ≡ None
+          unmapped None e = refl
+          unmapped (Some b) e = absurd (none-some (Takes b) (sym e))
 
 -- ---- all of them
 
@@ -117,10 +184,14 @@ module _ (text : List ℕ) (first : ℕ) (before : KeptAmong) (line : ℕ) (k : 
 abbrev and_then : List ℕ → ReadBase → Result KeptAmong LogTextFault
 and_then text first = increments_in (length first.left) first.line first.kept first.left >>= when_whole text
 
-pub below_is : (agents : ℕ) (text : List ℕ) (k : KeptAmong) (line : ℕ) (left : List ℕ) → IsBase agents text k line left → all_below agents text ≡ kept_below line k left
-below_is agents text k line left first =
-    ap (λ (r : Result ReadBase LogTextFault). r >>= and_then text) first.read
-    ∙ ap (λ t. increments_in (length (lines_in left).lines) line k (lines_in left).lines >>= λ there. at_log_line there.line (holds_or (is_empty t) Torn) >>= λ u. Ok there.kept) (sym first.rest)
+module _ (agents : ℕ) (text : List ℕ) (lines : ℕ) (front : List ℕ) (line : ℕ) (left : List ℕ) (at : IsBaseText text lines front line left) where
+  pub below_is : (k : KeptAmong) → base_of agents lines front ≡ Some k → all_below agents text ≡ kept_below line k left
+  below_is k is =
+      ap (λ (r : Result ReadBase LogTextFault). r >>= and_then text) (at.read agents ∙ ap (base_before line (lines_in left).lines) is)
+      ∙ ap (λ t. increments_in (length (lines_in left).lines) line k (lines_in left).lines >>= λ there. at_log_line there.line (holds_or (is_empty t) Torn) >>= λ u. Ok there.kept) (sym at.rest)
+
+  pub base_bad : base_of agents lines front ≡ None → all_below agents text ≡ Err (record { code = BadKept; line = 2 })
+  base_bad none = ap (λ (r : Result ReadBase LogTextFault). r >>= and_then text) (at.read agents ∙ ap (base_before line (lines_in left).lines) none)
 
 pub below_fault : (agents : ℕ) (text : List ℕ) (f : LogTextFault) → base_in agents (lines_in text).lines ≡ Err f → all_below agents text ≡ Err f
 below_fault agents text f e = ap (λ (r : Result ReadBase LogTextFault). r >>= and_then text) e
@@ -177,6 +248,9 @@ module _ (text l below : List ℕ) (short : length text ≤ most_log_bytes) (cut
 
     pub log_fault : (f : LogTextFault) → all_below h.agents below ≡ Err f → log_in text ≡ Err f
     log_fault f e = by_head ∙ ap (with_head h) e
+
+    pub begins : BeginsWithHead text
+    begins = record { short = short; head = h; read = ap (λ (x : Lines). first_head x.lines) cut ∙ good }
 
 -- ---- faults
 

@@ -26,7 +26,7 @@ pub enum LogCode {
 }
 
 /// Why nothing is read of a text: its first fault by line, or an allocation failure.
-#[derive(Clone, Copy, Debug, PartialEq, Eq, Drop, Error)]
+#[derive(Clone, Copy, Debug, Drop, Error)]
 pub enum LogFault {
     /// The line, counted from 1, and what is wrong there.
     #[error("{code} line {line}")]

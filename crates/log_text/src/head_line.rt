@@ -3,7 +3,6 @@
 ghost use Rattle.std.specs.Prelude.{◌≡◌, ◌≤◌, [], ◌∷◌, length, None, Some, Ok, Err, IfSome, MatchOption};
 ghost use Rattle.std.specs.Option.{option_map};
 ghost use Rattle.metering_model.specs.BatchReading.{fields_in, whole_in};
-ghost use Rattle.metering_model.specs.Limits.{last_node, most_agents, most_nodes};
 ghost use Rattle.log_text.specs.Heads.{who_of};
 ghost use Rattle.log_text.specs.LogText.{head_in, is_among, who_in};
 ghost use Rattle.log_text.specs.Inner.Reading.{sizes_in};
@@ -80,28 +79,16 @@ fn head_fields(line: &[u8]) -> Option<HeadFields<'_>>
     })
 }
 
-/// The number of a node, at most 98.
-fn read_node(text: &[u8]) -> Option<u8>
-    ensures { result ≡ whole_in 0 last_node text.now }
+/// A number between these two, of which the second is at most 99.
+fn read_number(text: &[u8], low: u32, high: u32) -> Option<u8>
+    requires { high ≤ 99 }
+    ensures value { result ≡ whole_in low high text.now }
+    ensures within { IfSome result (λ n. n ≤ high) }
 {
-    Some(read_whole(text, 0, 98)? as u8)
-}
-
-/// A number of agents, or that of one, from 1 to 64.
-fn read_agents(text: &[u8]) -> Option<u8>
-    ensures value { result ≡ whole_in 1 most_agents text.now }
-    ensures from { IfSome result (λ n. 1 ≤ n) }
-    ensures to { IfSome result (λ n. n ≤ most_agents) }
-{
-    Some(read_whole(text, 1, 64)? as u8)
-}
-
-/// A number of nodes from that one on, at most 99.
-fn read_nodes(text: &[u8], low: u32) -> Option<u8>
-    ensures value { result ≡ whole_in low most_nodes text.now }
-    ensures most { IfSome result (λ n. n ≤ most_nodes) }
-{
-    Some(read_whole(text, low, 99)? as u8)
+    let Some(number) = read_whole(text, low, high) else {
+        return None;
+    };
+    Some(number as u8)
 }
 
 /// How many nodes vote, how many observe, how many there are, and how many agents.
@@ -117,20 +104,20 @@ struct Sizes {
 fn read_sizes(voters: &[u8], observers: &[u8], agents: &[u8]) -> Option<Sizes>
     ensures { MatchOption result
         (sizes_in voters.now observers.now agents.now ≡ None)
-        (λ s. (sizes_in voters.now observers.now agents.now ≡ Some (record {
+        (λ s. sizes_in voters.now observers.now agents.now ≡ Some (record {
           voters = s.voters;
           observers = s.observers;
           nodes = s.nodes;
           agents = s.agents;
-        })) × (1 ≤ s.agents) × (s.agents ≤ most_agents)) }
+        })) }
 {
-    let Some(voters) = read_nodes(voters, 1) else {
+    let Some(voters) = read_number(voters, 1, 99) else {
         return None;
     };
-    let Some(observers) = read_nodes(observers, 0) else {
+    let Some(observers) = read_number(observers, 0, 99) else {
         return None;
     };
-    let Some(agents) = read_agents(agents) else {
+    let Some(agents) = read_number(agents, 1, 64) else {
         return None;
     };
     let nodes = voters + observers;
@@ -150,10 +137,16 @@ fn read_who(word: &[u8], number: &[u8]) -> Option<Who>
     ensures { option_map who_of result ≡ who_in word.now number.now }
 {
     if is_same(word, b"node") {
-        return Some(Who::Node(read_node(number)?));
+        return match read_number(number, 0, 98) {
+            Some(node) => Some(Who::Node(node)),
+            None => None,
+        };
     }
     if is_same(word, b"agent") {
-        return Some(Who::Agent(read_agents(number)?));
+        return match read_number(number, 1, 64) {
+            Some(agent) => Some(Who::Agent(agent)),
+            None => None,
+        };
     }
     None
 }
@@ -172,8 +165,7 @@ fn is_among(who: Who, nodes: u8, agents: u8) -> bool
 pub(crate) fn read_head(line: &[u8]) -> Option<LogHead>
     ensures { MatchOption result
         (head_in (fields_in line.now) ≡ Err LogCode.Head)
-        (λ head. (head_in (fields_in line.now) ≡ Ok head)
-        × (1 ≤ head.agents) × (head.agents ≤ most_agents)) }
+        (λ head. head_in (fields_in line.now) ≡ Ok head) }
 {
     let Some(fields) = head_fields(line) else {
         return None;

@@ -8,7 +8,7 @@ use byte_text::Line;
 use std::marker::Model;
 
 /// Whose a log is.
-#[derive(Clone, Copy, Debug, PartialEq, Eq, Drop)]
+#[derive(Clone, Copy, Drop)]
 pub enum Who {
     /// The node of that number, from 0.
     Node(u8),

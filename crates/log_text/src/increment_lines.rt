@@ -1,21 +1,22 @@
-//! Increments, each read from its line, or from its line and those below it.
+//! Increments, each read from its line, or from the lines below it, and added to what is kept.
 
-ghost use Rattle.std.specs.Prelude.{◌≡◌, ◌≤◌, ◌∷◌, length, None, Some, Ok, Err, MatchOption, MatchResult};
+ghost use Rattle.std.specs.Prelude.{◌≡◌, ℕ, ◌≤◌, length, None, Some, Ok, MatchOption, MatchResult};
 ghost use Rattle.std.specs.Arc.{arc_value};
+ghost use Rattle.std.specs.Option.{option_map};
 ghost use Rattle.std.specs.Result.{result_ok};
-ghost use Rattle.metering_model.specs.BatchReading.{batch_in, fields_in, lines_in, whole_in};
+ghost use Rattle.metering_model.specs.BatchReading.{batch_in, fields_in, whole_in};
 ghost use Rattle.metering_model.specs.KeptText.{cut_in};
 ghost use Rattle.metering_model.specs.Limits.{last_period, most_agents, most_rounds};
 ghost use Rattle.batch_store.specs.Batches.{batch_of};
-ghost use Rattle.packet_text.specs.PacketText.{lines_of_batch};
-ghost use Rattle.log_text.specs.LogText.{BeginsRound, at_log_line, ballots_in, first_increment, learned_in, line_increment_in, lines_of_increment, round_in};
-ghost use Rattle.log_text.specs.Inner.Reading.{AreBallots, IfNotThere, IfTold, IsFirst, IsVoteAmong, IsWithin, batch_of_text, taken_of, told_vote, vote_of_fields};
+ghost use Rattle.node_kept.specs.Kept.{IsKept};
+ghost use Rattle.log_text.specs.LogText.{BeginsRound, Takes, ballots_in, learned_in, line_increment_in, round_in};
+ghost use Rattle.log_text.specs.Inner.Reading.{Adds, AreBallots, IfNotThere, IsVoteAmong, batch_of_text, told_vote, vote_of_fields};
 
-use crate::faults::{LogCode, LogFault, Unread, fault_at};
-use crate::increments::Taken;
-use crate::sections::read_section;
+use crate::faults::Unread;
+use crate::increments::{add_ballots, add_batch, add_cut, add_round};
 use batch_store::{Cut, Offer, OwnedBatch};
-use byte_text::{is_same, lines_length, read_whole, split_at_bar};
+use byte_text::{is_same, read_whole, split_at_bar};
+use node_kept::Parts;
 use paxos_ballot::{Acceptor, Ballot, Vote};
 use std::alloc::Global;
 use std::sync::Arc;
@@ -52,7 +53,10 @@ fn read_round(fields: &[u8]) -> Option<u16>
     if split_at_bar(fields).is_some() {
         return None;
     }
-    Some(read_whole(fields, 1, 10_000)? as u16)
+    let Some(round) = read_whole(fields, 1, 10_000) else {
+        return None;
+    };
+    Some(round as u16)
 }
 
 /// A vote of that ballot, which is not 0, and of the cut.
@@ -101,7 +105,10 @@ fn read_vote(alloc: Global, fields: &[u8], agents: u8) -> Result<Option<Vote>, U
 fn read_period(text: &[u8]) -> Option<u16>
     ensures { result ≡ whole_in 0 last_period text.now }
 {
-    Some(read_whole(text, 0, 1_199)? as u16)
+    let Some(period) = read_whole(text, 0, 1_199) else {
+        return None;
+    };
+    Some(period as u16)
 }
 
 /// The period and the promise of a promise and a vote, and the fields of the vote.
@@ -112,12 +119,11 @@ struct BallotFields<'a> {
     vote: &'a [u8],
 }
 
-/// The fields of a promise and a vote, if they may be such. (The number of agents is for the proof alone.)
-fn ballot_fields(fields: &[u8], _agents: u8) -> Option<BallotFields<'_>>
+/// The fields of a promise and a vote, if they may be such, of any number of agents.
+fn ballot_fields(fields: &[u8]) -> Option<BallotFields<'_>>
     ensures { MatchOption result
-        (ballots_in _agents (fields_in fields.now) ≡ None)
-        (λ f. AreBallots _agents (fields_in fields.now) f.period f.promised
-        (fields_in f.vote.now)) }
+        ((agents : ℕ) → ballots_in agents (fields_in fields.now) ≡ None)
+        (λ f. AreBallots (fields_in fields.now) f.period f.promised (fields_in f.vote.now)) }
 {
     let Some((period, rest)) = split_at_bar(fields) else {
         return None;
@@ -138,33 +144,30 @@ fn ballot_fields(fields: &[u8], _agents: u8) -> Option<BallotFields<'_>>
     })
 }
 
-/// A promise and a vote of a period.
-fn read_ballots(alloc: Global, fields: &[u8], agents: u8) -> Result<Taken, Unread>
-    requires from { 1 ≤ agents }
-    requires to { agents ≤ most_agents }
-    ensures { MatchResult result
-        (λ taken. (ballots_in agents (fields_in fields.now) ≡ Some (taken_of taken))
-        × IsWithin agents (taken_of taken)
-        × (lines_of_increment (taken_of taken) ≡ 1))
-        (λ why. IfNotThere why (ballots_in agents (fields_in fields.now) ≡ None)) }
+// Each of these adds what it reads to what is kept, if it goes on from that.
+
+/// Makes the promise or the vote of these fields.
+fn add_ballots_of(alloc: Global, parts: &mut Parts, fields: &[u8]) -> Result<(), Unread>
+    requires { IsKept parts.old }
+    ensures { Adds result parts.old parts.new
+        (ballots_in parts.old.agents (fields_in fields.now)) }
 {
-    let Some(numbers) = ballot_fields(fields, agents) else {
+    let Some(numbers) = ballot_fields(fields) else {
         return Err(Unread::NotThere);
     };
-    let vote = read_vote(alloc, numbers.vote, agents)?;
-    Ok(Taken::Ballots(numbers.period, Acceptor::of(numbers.promised, vote)))
+    match read_vote(alloc, numbers.vote, parts.store.agents()) {
+        Ok(vote) => add_ballots(parts, numbers.period, Acceptor::of(numbers.promised, vote)),
+        Err(why) => Err(why),
+    }
 }
 
-/// The cut of a period.
-fn read_learned(alloc: Global, fields: &[u8], agents: u8) -> Result<Taken, Unread>
-    requires from { 1 ≤ agents }
-    requires to { agents ≤ most_agents }
-    ensures { MatchResult result
-        (λ taken. (learned_in agents (fields_in fields.now) ≡ Some (taken_of taken))
-        × IsWithin agents (taken_of taken)
-        × (lines_of_increment (taken_of taken) ≡ 1))
-        (λ why. IfNotThere why (learned_in agents (fields_in fields.now) ≡ None)) }
+/// Learns the period's cut of these fields.
+fn add_learned(alloc: Global, parts: &mut Parts, fields: &[u8]) -> Result<(), Unread>
+    requires { IsKept parts.old }
+    ensures { Adds result parts.old parts.new
+        (learned_in parts.old.agents (fields_in fields.now)) }
 {
+    let agents = parts.store.agents();
     let Some((period, cut)) = split_at_bar(fields) else {
         return Err(Unread::NotThere);
     };
@@ -172,55 +175,33 @@ fn read_learned(alloc: Global, fields: &[u8], agents: u8) -> Result<Taken, Unrea
         return Err(Unread::NotThere);
     };
     match read_cut(alloc, cut, agents) {
-        Ok(cut) => Ok(Taken::Learned(period, cut)),
+        Ok(cut) => add_cut(parts, period, cut),
         Err(why) => Err(why),
     }
 }
 
-/// The increment of that word that is one line.
-fn read_word_increment(
-    alloc: Global,
-    word: &[u8],
-    fields: &[u8],
-    agents: u8,
-) -> Result<Taken, Unread>
-    requires from { 1 ≤ agents }
-    requires to { agents ≤ most_agents }
-    ensures { MatchResult result
-        (λ taken. (line_increment_in agents (word.now ∷ fields_in fields.now)
-        ≡ Some (taken_of taken)) × IsWithin agents (taken_of taken)
-        × (lines_of_increment (taken_of taken) ≡ 1))
-        (λ why. IfNotThere why
-        (line_increment_in agents (word.now ∷ fields_in fields.now) ≡ None)) }
+/// Adds the increment that is that line.
+pub(crate) fn add_line(alloc: Global, parts: &mut Parts, line: &[u8]) -> Result<(), Unread>
+    requires { IsKept parts.old }
+    ensures { Adds result parts.old parts.new
+        (line_increment_in parts.old.agents (fields_in line.now)) }
 {
+    let Some((word, fields)) = split_at_bar(line) else {
+        return Err(Unread::NotThere);
+    };
     if is_same(word, b"round") {
         return match read_round(fields) {
-            Some(round) => Ok(Taken::Round(round)),
+            Some(round) => add_round(parts, round),
             None => Err(Unread::NotThere),
         };
     }
     if is_same(word, b"ballot") {
-        return read_ballots(alloc, fields, agents);
+        return add_ballots_of(alloc, parts, fields);
     }
     if is_same(word, b"learned") {
-        return read_learned(alloc, fields, agents);
+        return add_learned(alloc, parts, fields);
     }
     Err(Unread::NotThere)
-}
-
-/// The increment that is that line.
-fn read_line_increment(alloc: Global, line: &[u8], agents: u8) -> Result<Taken, Unread>
-    requires from { 1 ≤ agents }
-    requires to { agents ≤ most_agents }
-    ensures { MatchResult result
-        (λ taken. (line_increment_in agents (fields_in line.now) ≡ Some (taken_of taken))
-        × IsWithin agents (taken_of taken) × (lines_of_increment (taken_of taken) ≡ 1))
-        (λ why. IfNotThere why (line_increment_in agents (fields_in line.now) ≡ None)) }
-{
-    match split_at_bar(line) {
-        Some((word, fields)) => read_word_increment(alloc, word, fields, agents),
-        None => Err(Unread::NotThere),
-    }
 }
 
 /// The batch that these bytes are. They are copied once.
@@ -242,52 +223,22 @@ fn read_batch(alloc: Global, bytes: &[u8]) -> Result<Arc<OwnedBatch>, Unread>
     }
 }
 
-/// The batch that a text is, of so many lines.
-fn read_batch_of(alloc: Global, lines: u32, text: &[u8]) -> Result<Arc<OwnedBatch>, Unread>
-    ensures { MatchResult result
-        (λ batch. (batch_of_text lines text.now ≡ Some (batch_of (arc_value batch)))
-        × (lines ≡ lines_of_batch (batch_of (arc_value batch))))
-        (λ why. IfNotThere why (batch_of_text lines text.now ≡ None)) }
+/// Takes the batch that a text is, of so many lines.
+pub(crate) fn add_batch_of(
+    alloc: Global,
+    parts: &mut Parts,
+    lines: u32,
+    text: &[u8],
+) -> Result<(), Unread>
+    requires { IsKept parts.old }
+    ensures { Adds result parts.old parts.new (option_map Takes (batch_of_text lines text.now)) }
 {
-    let batch = read_batch(alloc, text)?;
+    let batch = match read_batch(alloc, text) {
+        Ok(batch) => batch,
+        Err(why) => return Err(why),
+    };
     if lines != 1 + u32::from(batch.view().count()) {
         return Err(Unread::NotThere);
     }
-    Ok(batch)
-}
-
-/// The increment of that line, which has that number, and of the lines that it says to be below it; and what stands
-/// behind.
-pub(crate) fn read_increment<'a>(
-    alloc: Global,
-    number: u64,
-    line: &[u8],
-    below: &'a [u8],
-    agents: u8,
-) -> Result<(Taken, &'a [u8]), LogFault>
-    requires from { 1 ≤ agents }
-    requires to { agents ≤ most_agents }
-    ensures { MatchResult result
-        (λ read. IsFirst agents line.now below.now (taken_of read.0) read.1.now)
-        (λ fault. IfTold fault (λ f.
-        at_log_line number (first_increment agents line.now (lines_in below.now).lines)
-        ≡ Err f)) }
-{
-    let Some(lines) = read_section(line, b"batch ", 1_001) else {
-        return match read_line_increment(alloc, line, agents) {
-            Ok(taken) => Ok((taken, below)),
-            Err(why) => Err(fault_at(number, LogCode::Increment, why)),
-        };
-    };
-    let Some(length) = lines_length(below, lines) else {
-        return Err(LogFault::Refused {
-            code: LogCode::Torn,
-            line: number,
-        });
-    };
-    let (front, behind) = below.split_at(length);
-    match read_batch_of(alloc, lines, front) {
-        Ok(batch) => Ok((Taken::Batch(batch), behind)),
-        Err(why) => Err(fault_at(number, LogCode::Increment, why)),
-    }
+    add_batch(parts, batch)
 }

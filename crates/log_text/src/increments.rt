@@ -1,15 +1,15 @@
 //! What a step adds to what is kept.
 
-ghost use Rattle.std.specs.Prelude.{◌≡◌, ◌+◌, ◌≤◌, true, false, length, MatchResult};
+ghost use Rattle.std.specs.Prelude.{◌≡◌, ◌≤◌, Some, length};
 ghost use Rattle.std.specs.Arc.{arc_value};
 ghost use Rattle.std.specs.Option.{option_copied};
 ghost use Rattle.metering_model.specs.BatchReading.{is_same};
 ghost use Rattle.metering_model.specs.Dates.{IsPeriod};
-ghost use Rattle.metering_model.specs.Limits.{most_journal_lines, most_rounds};
+ghost use Rattle.metering_model.specs.Limits.{most_rounds};
 ghost use Rattle.batch_store.specs.Batches.{batch_of};
 ghost use Rattle.node_kept.specs.Kept.{IsKept};
-ghost use Rattle.log_text.specs.LogText.{BeginsRound, Learns, SetsBallots, Takes, among_with, ballots_go_on, goes_on, is_promised, is_same_vote, is_vote_at, lines_of_increment};
-ghost use Rattle.log_text.specs.Inner.Reading.{IfNotThere, IsWithin, taken_of};
+ghost use Rattle.log_text.specs.LogText.{BeginsRound, Learns, SetsBallots, Takes, ballots_go_on, is_promised, is_same_vote, is_vote_at};
+ghost use Rattle.log_text.specs.Inner.Reading.{Adds, IsPromise, IsVoteAmong};
 
 use crate::faults::Unread;
 use batch_store::{Cut, OwnedBatch};
@@ -31,38 +31,13 @@ pub enum Increment<'a> {
     Batch(&'a OwnedBatch),
 }
 
-/// What was read of a log as what a step added.
-#[derive(Drop)]
-pub(crate) enum Taken {
-    Round(u16),
-    Ballots(u16, Acceptor),
-    Learned(u16, Arc<Cut>),
-    Batch(Arc<OwnedBatch>),
-}
-
-impl Taken {
-    /// How many lines it has.
-    pub(crate) fn lines(&self) -> u64
-        ensures value { result ≡ lines_of_increment (taken_of self.now) }
-        ensures most { result ≤ most_journal_lines + 1 }
-    {
-        match self {
-            Taken::Batch(batch) => 2 + u64::from(batch.view().count()),
-            _ => 1,
-        }
-    }
-}
-
 // Each of these adds to what is kept, if it goes on from that. At an error nothing is said of what is kept then.
 
 /// Begins the round, if that is the next one.
-fn add_round(parts: &mut Parts, round: u16) -> Result<(), Unread>
+pub(crate) fn add_round(parts: &mut Parts, round: u16) -> Result<(), Unread>
     requires kept { IsKept parts.old }
     requires most { round ≤ most_rounds }
-    ensures { MatchResult result
-        (λ _. (goes_on (BeginsRound round) parts.old ≡ true)
-        × (parts.new ≡ among_with (BeginsRound round) parts.old) × IsKept parts.new)
-        (λ why. IfNotThere why (goes_on (BeginsRound round) parts.old ≡ false)) }
+    ensures { Adds result parts.old parts.new (Some (BeginsRound round)) }
 {
     if round != parts.round + 1 {
         return Err(Unread::NotThere);
@@ -126,13 +101,10 @@ fn ballots_go_on(old: &Acceptor, new: &Acceptor) -> bool
 }
 
 /// Makes a promise or a vote in that period, if it goes on from those before.
-fn add_ballots(parts: &mut Parts, period: u16, acceptor: Acceptor) -> Result<(), Unread>
+pub(crate) fn add_ballots(parts: &mut Parts, period: u16, acceptor: Acceptor) -> Result<(), Unread>
     requires kept { IsKept parts.old }
-    requires limits { IsWithin parts.old.agents (SetsBallots period acceptor) }
-    ensures { MatchResult result
-        (λ _. (goes_on (SetsBallots period acceptor) parts.old ≡ true)
-        × (parts.new ≡ among_with (SetsBallots period acceptor) parts.old) × IsKept parts.new)
-        (λ why. IfNotThere why (goes_on (SetsBallots period acceptor) parts.old ≡ false)) }
+    requires limits { IsPromise acceptor.promised × IsVoteAmong parts.old.agents acceptor.vote }
+    ensures { Adds result parts.old parts.new (Some (SetsBallots period acceptor)) }
 {
     if usize::from(period) != parts.learned.len() || !ballots_go_on(&parts.acceptor, &acceptor) {
         return Err(Unread::NotThere);
@@ -142,14 +114,10 @@ fn add_ballots(parts: &mut Parts, period: u16, acceptor: Acceptor) -> Result<(),
 }
 
 /// Learns the period's cut, if that is the next one: promise and vote are of the period behind.
-fn add_cut(parts: &mut Parts, period: u16, cut: Arc<Cut>) -> Result<(), Unread>
+pub(crate) fn add_cut(parts: &mut Parts, period: u16, cut: Arc<Cut>) -> Result<(), Unread>
     requires kept { IsKept parts.old }
-    requires period { IsPeriod period }
-    requires agents { length (arc_value cut) ≡ parts.old.agents }
-    ensures { MatchResult result
-        (λ _. (goes_on (Learns period (arc_value cut)) parts.old ≡ true)
-        × (parts.new ≡ among_with (Learns period (arc_value cut)) parts.old) × IsKept parts.new)
-        (λ why. IfNotThere why (goes_on (Learns period (arc_value cut)) parts.old ≡ false)) }
+    requires limits { IsPeriod period × (length (arc_value cut) ≡ parts.old.agents) }
+    ensures { Adds result parts.old parts.new (Some (Learns period (arc_value cut))) }
 {
     if usize::from(period) != parts.learned.len() {
         return Err(Unread::NotThere);
@@ -162,13 +130,9 @@ fn add_cut(parts: &mut Parts, period: u16, cut: Arc<Cut>) -> Result<(), Unread>
 }
 
 /// Takes a batch, if it is of an agent that there is, and was not there.
-fn add_batch(parts: &mut Parts, batch: Arc<OwnedBatch>) -> Result<(), Unread>
-    requires kept { IsKept parts.old }
-    ensures { MatchResult result
-        (λ _. (goes_on (Takes (batch_of (arc_value batch))) parts.old ≡ true)
-        × (parts.new ≡ among_with (Takes (batch_of (arc_value batch))) parts.old)
-        × IsKept parts.new)
-        (λ why. IfNotThere why (goes_on (Takes (batch_of (arc_value batch))) parts.old ≡ false)) }
+pub(crate) fn add_batch(parts: &mut Parts, batch: Arc<OwnedBatch>) -> Result<(), Unread>
+    requires { IsKept parts.old }
+    ensures { Adds result parts.old parts.new (Some (Takes (batch_of (arc_value batch)))) }
 {
     if batch.view().agent() > parts.store.agents() {
         return Err(Unread::NotThere);
@@ -180,21 +144,4 @@ fn add_batch(parts: &mut Parts, batch: Arc<OwnedBatch>) -> Result<(), Unread>
         return Err(Unread::NotThere);
     }
     Ok(())
-}
-
-/// Adds this, if it goes on from what is kept.
-pub(crate) fn add(parts: &mut Parts, taken: Taken) -> Result<(), Unread>
-    requires kept { IsKept parts.old }
-    requires limits { IsWithin parts.old.agents (taken_of taken) }
-    ensures { MatchResult result
-        (λ _. (goes_on (taken_of taken) parts.old ≡ true)
-        × (parts.new ≡ among_with (taken_of taken) parts.old) × IsKept parts.new)
-        (λ why. IfNotThere why (goes_on (taken_of taken) parts.old ≡ false)) }
-{
-    match taken {
-        Taken::Round(round) => add_round(parts, round),
-        Taken::Ballots(period, acceptor) => add_ballots(parts, period, acceptor),
-        Taken::Learned(period, cut) => add_cut(parts, period, cut),
-        Taken::Batch(batch) => add_batch(parts, batch),
-    }
 }

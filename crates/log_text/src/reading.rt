@@ -8,13 +8,13 @@ ghost use Rattle.log_text.specs.Faults.{BeginsWithHead, IsFaultOf};
 ghost use Rattle.log_text.specs.LogText.{log_in, most_log_bytes};
 ghost use Rattle.log_text.specs.Inner.Reading.{HasNoStep, IfTold, IsStep, all_below, kept_below};
 
-use crate::bases::read_base;
+use crate::bases::{find_base, read_base};
 use crate::faults::{LogCode, LogFault, fault_at};
 use crate::head_line::read_head;
 use crate::heads::LogHead;
-use crate::increment_lines::read_increment;
-use crate::increments::add;
-use byte_text::first_line;
+use crate::increment_lines::{add_batch_of, add_line};
+use crate::sections::read_section;
+use byte_text::{first_line, lines_length};
 use node_kept::{Kept, Parts};
 use std::alloc::Global;
 use std::marker::Model;
@@ -60,25 +60,48 @@ impl Log {
     }
 }
 
-/// Adds the increment that stands first, on the line of that number, to what is kept. It returns how many lines this
-/// has, and what stands behind it.
+/// How many lines an increment has, and what stands behind it.
+#[derive(Clone, Copy)]
+struct Step<'a> {
+    lines: u64,
+    behind: &'a [u8],
+}
+
+/// Adds the increment that stands first, on the line of that number, and on the lines that this says to be below it, to
+/// what is kept.
 fn add_step<'a>(
     alloc: Global,
     parts: &mut Parts,
     number: u64,
     line: &[u8],
     below: &'a [u8],
-) -> Result<(u64, &'a [u8]), LogFault>
+) -> Result<Step<'a>, LogFault>
     requires { IsKept parts.old }
     ensures { MatchResult result
-        (λ read. IsStep parts.old line.now below.now parts.new read.0 read.1.now)
+        (λ step. IsStep parts.old line.now below.now parts.new step.lines step.behind.now)
         (λ fault. IfTold fault (HasNoStep parts.old number line.now below.now)) }
 {
-    let agents = parts.store.agents();
-    let (taken, behind) = read_increment(alloc, number, line, below, agents)?;
-    let lines = taken.lines();
-    match add(parts, taken) {
-        Ok(()) => Ok((lines, behind)),
+    let Some(lines) = read_section(line, b"batch ", 1_001) else {
+        return match add_line(alloc, parts, line) {
+            Ok(()) => Ok(Step {
+                lines: 1,
+                behind: below,
+            }),
+            Err(why) => Err(fault_at(number, LogCode::Increment, why)),
+        };
+    };
+    let Some(length) = lines_length(below, lines) else {
+        return Err(LogFault::Refused {
+            code: LogCode::Torn,
+            line: number,
+        });
+    };
+    let (front, behind) = below.split_at(length);
+    match add_batch_of(alloc, parts, lines, front) {
+        Ok(()) => Ok(Step {
+            lines: 1 + u64::from(lines),
+            behind,
+        }),
         Err(why) => Err(fault_at(number, LogCode::Increment, why)),
     }
 }
@@ -94,9 +117,12 @@ fn add_increments(alloc: Global, text: &[u8], first: u64, parts: &mut Parts) -> 
     let mut rest = text;
     let mut line = first;
     while let Some((here, below)) = first_line(rest) {
-        let (lines, behind) = add_step(alloc, parts, line, here, below)?;
-        line += lines;
-        rest = behind;
+        let step = match add_step(alloc, parts, line, here, below) {
+            Ok(step) => step,
+            Err(fault) => return Err(fault),
+        };
+        line += step.lines;
+        rest = step.behind;
     }
     if !rest.is_empty() {
         return Err(LogFault::Refused {
@@ -116,10 +142,18 @@ fn read_below(alloc: Global, agents: u8, text: &[u8]) -> Result<Kept, LogFault>
         (λ kept. all_below agents text.now ≡ Ok kept)
         (λ fault. IfTold fault (λ f. all_below agents text.now ≡ Err f)) }
 {
-    let (mut parts, first, left) = read_base(alloc, agents, text)?;
-    match add_increments(alloc, left, first, &mut parts) {
-        Ok(()) => Ok(Kept::of(parts)),
-        Err(fault) => Err(fault),
+    let Some(base) = find_base(text) else {
+        return Err(LogFault::Refused {
+            code: LogCode::Torn,
+            line: 2,
+        });
+    };
+    match read_base(alloc, agents, base.lines, base.front) {
+        Ok(mut parts) => match add_increments(alloc, base.left, base.line, &mut parts) {
+            Ok(()) => Ok(Kept::of(parts)),
+            Err(fault) => Err(fault),
+        },
+        Err(why) => Err(fault_at(2, LogCode::Kept, why)),
     }
 }
 
@@ -147,6 +181,8 @@ pub fn read_log(alloc: Global, text: &[u8]) -> Result<Log, LogFault>
     let Some(head) = read_head(line) else {
         return Err(fault);
     };
-    let kept = read_below(alloc, head.agents(), below)?;
-    Ok(Log { head, kept })
+    match read_below(alloc, head.agents(), below) {
+        Ok(kept) => Ok(Log { head, kept }),
+        Err(fault) => Err(fault),
+    }
 }

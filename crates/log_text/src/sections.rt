@@ -10,8 +10,14 @@ use byte_text::{is_same, whole_up_to};
 fn read_count(text: &[u8], most: u32) -> Option<u32>
     ensures { result ≡ whole_in 1 most text.now }
 {
-    let number = whole_up_to(text, u64::from(most))? as u32;
-    if number < 1 { None } else { Some(number) }
+    let Some(number) = whole_up_to(text, u64::from(most)) else {
+        return None;
+    };
+    if number < 1 {
+        None
+    } else {
+        Some(number as u32)
+    }
 }
 
 /// How many lines a line says to be below, from 1 on, if it has that word.

@@ -164,7 +164,9 @@ pub fn has_head(alloc: Global, head: &LogHead, text: &[u8]) -> Result<bool, Allo
     ensures { IfOk result (λ is. is ≡ has_head head.now text.now) }
 {
     let mut line = Vec::new(alloc);
-    put_head(&mut line, head)?;
+    let Ok(()) = put_head(&mut line, head) else {
+        return Err(AllocError);
+    };
     let length = line.len().min(text.len());
     Ok(is_same(&text[..length], &line))
 }
@@ -204,6 +206,8 @@ pub fn put_kept(text: &mut Vec<u8>, alloc: Global, kept: &Kept) -> Result<(), Al
     ensures put { OnOk result (text.new.items ≡ text.old.items ++ base_text (Some kept.now)) }
     ensures kept { OnErr result (text.new.items ≡ text.old.items) }
 {
-    let written = kept.write(alloc)?;
-    put_base(text, &written)
+    match kept.write(alloc) {
+        Ok(written) => put_base(text, &written),
+        Err(failed) => Err(failed),
+    }
 }

@@ -1,6 +1,5 @@
 -- Each part is read by a call, and the first that is not there is told.
-use Rattle.std.proofs.Common.{Ok, sym, ap, ◌∙◌, arith}
-use Rattle.log_text.specs.LogText.{LogHead}
+use Rattle.std.proofs.Common.{Ok, sym, ap, ◌∙◌}
 use Rattle.log_text.proofs.ReadHeads.{head_there, no_format, no_name, no_sizes, no_who, not_own}
 use Rattle.log_text.proofs.head_line.read_head.Goals as goal
 
@@ -23,15 +22,11 @@ returns-in_default-read_sizes c =
 
 pub returns-then-not-is_among : goal.returns-then-not-is_among
 returns-then-not-is_among c =
-    not_own _ _ _ _ _ _ _ _ c.in-Some.ensures (sym c.is_same.ensures ∙ c.if-not-is_same.false) (sym c.is_group.ensures ∙ c.if-not-is_group.false) _ (sym c.in-Some-read_who.ensures) _ c.in-Some-read_sizes.ensures.0
+    not_own _ _ _ _ _ _ _ _ c.in-Some.ensures (sym c.is_same.ensures ∙ c.if-not-is_same.false) (sym c.is_group.ensures ∙ c.if-not-is_group.false) _ (sym c.in-Some-read_who.ensures) _ c.in-Some-read_sizes.ensures
     (sym c.is_among.ensures ∙ c.if-not-is_among.true)
 
 pub returns : goal.returns
 returns c =
-    let agents = ap (λ (h : LogHead). h.agents) c.new.ensures in (
-      head_there _ _ _ _ _ _ _ _ c.in-Some.ensures (sym c.is_same.ensures ∙ c.if-not-is_same.false) (sym c.is_group.ensures ∙ c.if-not-is_group.false) _ (sym c.in-Some-read_who.ensures) _ c.in-Some-read_sizes.ensures.0
-          (sym c.is_among.ensures ∙ c.if-not-is_among.false)
-          ∙ ap Ok (sym c.new.ensures),
-      omega (arith, agents, c.in-Some-read_sizes.ensures.1),
-      omega (arith, agents, c.in-Some-read_sizes.ensures.2),
-    )
+    head_there _ _ _ _ _ _ _ _ c.in-Some.ensures (sym c.is_same.ensures ∙ c.if-not-is_same.false) (sym c.is_group.ensures ∙ c.if-not-is_group.false) _ (sym c.in-Some-read_who.ensures) _ c.in-Some-read_sizes.ensures
+    (sym c.is_among.ensures ∙ c.if-not-is_among.false)
+    ∙ ap Ok (sym c.new.ensures)

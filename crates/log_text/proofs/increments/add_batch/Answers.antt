@@ -1,14 +1,13 @@
 -- A batch of an agent that is there, which was not held, is taken.
-use Rattle.std.proofs.Common.{◌≡◌, ◌≤◌, not, true, map, sym, ap, subst, ◌∙◌, arith, le-leb}
+use Rattle.std.proofs.Common.{◌≡◌, ◌≤◌, not, true, map, ap, subst, ◌∙◌, arith, le-leb}
 use Rattle.std.specs.Arc.{arc_value}
 use Rattle.std.specs.Option.{is_some}
 use Rattle.std.proofs.lemmas.Bool.{and_from}
 use Rattle.metering_model.specs.KeptText.{KeptAmong}
 use Rattle.batch_store.specs.Batches.{batch_of}
 use Rattle.batch_store.specs.Stores.{Stored}
-use Rattle.node_kept.specs.Kept.{IsKept}
 use Rattle.log_text.specs.LogText.{Takes, among_with, goes_on}
-use Rattle.log_text.proofs.KeptSteps.{batch_kept}
+use Rattle.log_text.proofs.KeptSteps.{added, batch_kept}
 use Rattle.log_text.proofs.increments.add_batch.Goals as goal
 
 pub returns : goal.returns
@@ -22,4 +21,4 @@ returns c =
     let is =
     ap (λ (s : Stored). record { agents = s.agents; kept = record { round = inside.round; learned = map arc_value inside.learned.items; acceptor = inside.acceptor; holding = s.batches } }) c.in-Ok.ensures.batches
     ∙ ap (among_with (Takes b)) c.parts.view_is in
-    (subst (λ (x : KeptAmong). goes_on (Takes b) x ≡ true) c.parts.view_is goes, is, subst IsKept (sym is) (batch_kept c.args.parts.now b c.requires.kept))
+    added c.args.parts.now _ (Takes b) (subst (λ (x : KeptAmong). goes_on (Takes b) x ≡ true) c.parts.view_is goes) is (batch_kept c.args.parts.now b c.requires)

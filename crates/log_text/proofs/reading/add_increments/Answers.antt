@@ -1,6 +1,5 @@
 -- Each increment is read behind those before it, and nothing is left behind the last.
 use Rattle.std.proofs.Common.{sym, ◌∙◌, arith}
-use Rattle.std.proofs.lemmas.Result.{err_from_is_err_and}
 use Rattle.node_kept.proofs.WholeTexts.{empty_by_length}
 use Rattle.log_text.proofs.ReadSections.{told_so}
 use Rattle.log_text.proofs.ReadLogs.{all_read, reads_first, step_fault, step_more, torn_end}
@@ -16,20 +15,19 @@ pub overflow_add-line : goal.overflow_add-line
 overflow_add-line c =
     let l = c.loop-here in
     let most = c.requires.lines in
-    let more = step_more c.args.text.now c.args.first c.args.parts.now l.line l.parts l.rest.now l.invariant c.in-Some.here.now c.in-Some.below.now c.in-Some.ensures c.add_step.new.parts c.in_ok-lines.lines c.in_ok-lines.behind.now c.in_ok-lines.ensures in
+    let more = step_more c.args.text.now c.args.first c.args.parts.now l.line l.parts l.rest.now l.invariant c.in-Some.here.now c.in-Some.below.now c.in-Some.ensures c.add_step.new.parts c.in-Ok.step.lines c.in-Ok.step.behind.now c.in-Ok.ensures in
     let all = more.lines_of in
     omega (arith, all, most)
 
-pub returns-in_err-lines : goal.returns-in_err-lines
-returns-in_err-lines c =
+pub returns-in-Err : goal.returns-in-Err
+returns-in-Err c =
     let l = c.loop-here in
-    let p = err_from_is_err_and c.from_residual.result c.from_residual.ensures.1 in
-    rw (p.1, p.2) (told_so c.in_err-lines.field-0.0 _ _ (λ f lacking. step_fault c.args.text.now c.args.first c.args.parts.now l.line l.parts l.rest.now l.invariant c.in-Some.here.now c.in-Some.below.now c.in-Some.ensures f lacking) c.in_err-lines.ensures)
+    told_so c.in-Err.fault _ _ (λ f lacking. step_fault c.args.text.now c.args.first c.args.parts.now l.line l.parts l.rest.now l.invariant c.in-Some.here.now c.in-Some.below.now c.in-Some.ensures f lacking) c.in-Err.ensures
 
 pub loop-here-preserved : goal.loop-here-preserved
 loop-here-preserved c =
     let l = c.loop-here in
-    step_more c.args.text.now c.args.first c.args.parts.now l.line l.parts l.rest.now l.invariant c.in-Some.here.now c.in-Some.below.now c.in-Some.ensures c.add_step.new.parts c.in_ok-lines.lines c.in_ok-lines.behind.now c.in_ok-lines.ensures
+    step_more c.args.text.now c.args.first c.args.parts.now l.line l.parts l.rest.now l.invariant c.in-Some.here.now c.in-Some.below.now c.in-Some.ensures c.add_step.new.parts c.in-Ok.step.lines c.in-Ok.step.behind.now c.in-Ok.ensures
 
 pub returns-then-not-is_empty : goal.returns-then-not-is_empty
 returns-then-not-is_empty c =

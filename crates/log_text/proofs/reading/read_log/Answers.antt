@@ -1,37 +1,53 @@
 -- A log is its head line, and what is kept by the lines below it.
 use Rattle.std.proofs.Common.{length, sym, ap, ◌∙◌, arith}
-use Rattle.std.proofs.lemmas.Result.{err_from_is_err_and}
 use Rattle.metering_model.specs.BatchReading.{Lines}
 use Rattle.log_text.specs.Inner.Reading.{all_below}
+use Rattle.log_text.proofs.HeadLaws.{head_read}
 use Rattle.log_text.proofs.ReadSections.{told_so}
-use Rattle.log_text.proofs.ReadLogs.{bad_head, fault_of, lines_fewer, log_fault, log_read, too_long, without_line}
+use Rattle.log_text.proofs.ReadLogs.{bad_head, begins, fault_of, lines_fewer, log_fault, log_read, too_long, without_line}
 use Rattle.log_text.proofs.reading.read_log.Goals as goal
 
-pub returns-then-text-gt-MOST_LOG_BYTES-clause-refused : goal.returns-then-text-gt-MOST_LOG_BYTES-clause-refused
-returns-then-text-gt-MOST_LOG_BYTES-clause-refused c = too_long c.args.text.now (omega arith)
+pub returns-then-text-gt-MOST_LOG_BYTES : goal.returns-then-text-gt-MOST_LOG_BYTES
+returns-then-text-gt-MOST_LOG_BYTES c = record { read = tt; refused = too_long c.args.text.now (omega arith); want = λ e. absurd (cc) }
 
-pub returns-in_default-clause-refused : goal.returns-in_default-clause-refused
-returns-in_default-clause-refused c = without_line c.args.text.now (omega arith) c.in_default.ensures
+pub returns-in_default : goal.returns-in_default
+returns-in_default c = record { read = tt; refused = without_line c.args.text.now (omega arith) c.in_default.ensures; want = λ e. absurd (cc) }
 
-pub returns-in_default-read_head-clause-refused : goal.returns-in_default-read_head-clause-refused
-returns-in_default-read_head-clause-refused c = bad_head c.args.text.now c.in-Some.line.now c.in-Some.below.now (omega arith) c.in-Some.ensures c.in_default-read_head.ensures
+pub returns-in_default-read_head : goal.returns-in_default-read_head
+returns-in_default-read_head c = record {
+  read = tt;
+  refused = bad_head c.args.text.now c.in-Some.line.now c.in-Some.below.now (omega arith) c.in-Some.ensures c.in_default-read_head.ensures;
+  want = λ e. absurd (cc);
+}
 
-pub read_below-requires-clause-short : goal.read_below-requires-clause-short
-read_below-requires-clause-short c =
+pub read_below-requires : goal.read_below-requires
+read_below-requires c =
     let lines = ap (λ (x : Lines). length x.lines) c.in-Some.ensures in
-    omega (arith, lines, lines_fewer c.args.text.now)
+    let agents = (head_read c.in-Some.line.now c.in-Some-read_head.head c.in-Some-read_head.ensures).1.agents in
+    let from = agents.0 in
+    let to = agents.1 in
+    record { from = omega (arith, from, c.agents.ensures); to = omega (arith, to, c.agents.ensures); short = omega (arith, lines, lines_fewer c.args.text.now) }
 
-pub returns-in_err-kept-clause-refused : goal.returns-in_err-kept-clause-refused
-returns-in_err-kept-clause-refused c =
-    let p = err_from_is_err_and c.from_residual.result c.from_residual.ensures.1 in
+pub returns-in-Err : goal.returns-in-Err
+returns-in-Err c =
+    let text = c.args.text.now in
+    let line = c.in-Some.line.now in
+    let below = c.in-Some.below.now in
     let head = c.in-Some-read_head.head in
-    let below = c.in-Some.below.now in
+    let good = c.in-Some-read_head.ensures in
     let own = ap (λ n. all_below n below) (sym c.agents.ensures) in
-    rw (p.1, p.2) (fault_of c.args.text.now c.in_err-kept.field-0.0
-    (told_so c.in_err-kept.field-0.0 _ _ (λ f e. log_fault c.args.text.now c.in-Some.line.now below (omega arith) c.in-Some.ensures head c.in-Some-read_head.ensures.0 f (own ∙ e)) c.in_err-kept.ensures))
+    record {
+      read = tt;
+      refused = fault_of text c.in-Err.fault (told_so c.in-Err.fault _ _ (λ f e. log_fault text line below (omega arith) c.in-Some.ensures head good f (own ∙ e)) c.in-Err.ensures);
+      want = λ e. begins text line below (omega arith) c.in-Some.ensures head good;
+    }
 
-pub returns-clause-read : goal.returns-clause-read
-returns-clause-read c =
+pub returns-in-Ok : goal.returns-in-Ok
+returns-in-Ok c =
     let below = c.in-Some.below.now in
     let own = ap (λ n. all_below n below) (sym c.agents.ensures) in
-    log_read c.args.text.now c.in-Some.line.now below (omega arith) c.in-Some.ensures c.in-Some-read_head.head c.in-Some-read_head.ensures.0 c.in_ok-kept.kept (own ∙ c.in_ok-kept.ensures)
+    record {
+      read = log_read c.args.text.now c.in-Some.line.now below (omega arith) c.in-Some.ensures c.in-Some-read_head.head c.in-Some-read_head.ensures c.in-Ok.kept (own ∙ c.in-Ok.ensures);
+      refused = tt;
+      want = λ e. absurd (cc);
+    }

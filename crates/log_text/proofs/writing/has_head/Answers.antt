@@ -8,6 +8,6 @@ use Rattle.log_text.proofs.writing.has_head.Goals as goal
 pub returns : goal.returns
 returns c =
     let head = head_text c.args.head.now in
-    let line : c.deref.result.now ≡ head = c.deref.ensures.value ∙ c.in_ok-put_head.ensures.put ∙ ap (λ t. t ++ head) c.new-line.ensures.items in
+    let line : c.deref.result.now ≡ head = c.deref.ensures.value ∙ c.in-Ok.ensures.put ∙ ap (λ t. t ++ head) c.new-line.ensures.items in
     let size : c.min-length.result ≡ min (length head) (length c.args.text.now) = c.min-length.ensures ∙ ap (λ n. min n (length c.args.text.now)) (c.len.ensures ∙ sym c.deref.ensures.len ∙ ap length line) in
     c.is_same.ensures ∙ ap₂ is_same (ap (λ k. take k c.args.text.now) size ∙ take_min (length head) c.args.text.now) line

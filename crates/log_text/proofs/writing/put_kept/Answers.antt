@@ -5,9 +5,9 @@ use Rattle.log_text.specs.LogText.{section_line}
 use Rattle.log_text.proofs.WrittenLines.{kept_put}
 use Rattle.log_text.proofs.writing.put_kept.Goals as goal
 
-pub returns-clause-put : goal.returns-clause-put
-returns-clause-put c =
+pub returns-in-Ok-clause-put : goal.returns-in-Ok-clause-put
+returns-in-Ok-clause-put c =
     let old = c.args.text.now.items in
     let written = c.deref.result.now in
     then_ok c.put_base.result _ _
-    (λ put. put ∙ append_assoc old (section_line (codes "kept ") (line_count written)) written ∙ ap (λ t. old ++ t) (kept_put c.args.kept.now written (c.deref.ensures.value ∙ c.in_ok-written.ensures))) c.put_base.ensures.put
+    (λ put. put ∙ append_assoc old (section_line (codes "kept ") (line_count written)) written ∙ ap (λ t. old ++ t) (kept_put c.args.kept.now written (c.deref.ensures.value ∙ c.in-Ok.ensures))) c.put_base.ensures.put
