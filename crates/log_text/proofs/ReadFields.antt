@@ -24,9 +24,17 @@ zero_by : (agents : ℕ) (fs : List (List ℕ)) → 1 ≤ length fs → vote_in 
 zero_by agents [] some = absurd (omega (arith, some))
 zero_by agents (f ∷ fs) some = refl
 
-pub zero_vote : (agents n : ℕ) (t : List ℕ) → ballot_numbered n ≡ None → vote_in agents n (fields_in t) ≡ None
+zero_vote : (agents n : ℕ) (t : List ℕ) → ballot_numbered n ≡ None → vote_in agents n (fields_in t) ≡ None
 zero_vote agents zero t none = zero_by agents (fields_in t) (some_field t)
 zero_vote agents (suc n) t none = absurd (cc)
+
+abbrev told_by_ballot : (agents : ℕ) → List (List ℕ) → Option ℕ → Option (Option Vote)
+told_by_ballot agents cut o = elim o [ None ↦ None | Some b ↦ vote_in agents b cut ]
+
+-- so fields of it are of no vote
+pub no_vote : (agents : ℕ) (fields ballot cut : List ℕ) (n : ℕ) → fields_in fields ≡ ballot ∷ fields_in cut → Some n ≡ whole_in 0 last_ballot ballot → None ≡ ballot_numbered n → vote_of_fields agents (fields_in fields) ≡ None
+no_vote agents fields ballot cut n parts number none =
+    ap (vote_of_fields agents) parts ∙ ap (told_by_ballot agents (fields_in cut)) (sym number) ∙ zero_vote agents n cut (sym none)
 
 -- ---- by word
 

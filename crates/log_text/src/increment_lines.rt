@@ -10,7 +10,7 @@ ghost use Rattle.metering_model.specs.Limits.{last_period, most_agents, most_rou
 ghost use Rattle.batch_store.specs.Batches.{batch_of};
 ghost use Rattle.node_kept.specs.Kept.{IsKept};
 ghost use Rattle.log_text.specs.LogText.{BeginsRound, Takes, ballots_in, learned_in, line_increment_in, round_in};
-ghost use Rattle.log_text.specs.Inner.Reading.{Adds, AreBallots, IfNotThere, IsVoteAmong, batch_of_text, told_vote, vote_of_fields};
+ghost use Rattle.log_text.specs.Inner.Reading.{Adds, AreBallots, IfNotThere, IsVoteAmong, batch_of_text, vote_of_fields};
 
 use crate::faults::Unread;
 use crate::increments::{add_ballots, add_batch, add_cut, add_round};
@@ -59,28 +59,7 @@ fn read_round(fields: &[u8]) -> Option<u16>
     Some(round as u16)
 }
 
-/// A vote of that ballot, which is not 0, and of the cut.
-fn read_some_vote(alloc: Global, ballot: &[u8], cut: &[u8], agents: u8) -> Result<Vote, Unread>
-    requires from { 1 ≤ agents }
-    requires to { agents ≤ most_agents }
-    ensures { MatchResult result
-        (λ vote. (told_vote agents ballot.now (fields_in cut.now) ≡ Some (Some vote))
-        × IsVoteAmong agents (Some vote))
-        (λ why. IfNotThere why (told_vote agents ballot.now (fields_in cut.now) ≡ None)) }
-{
-    let Some(number) = read_whole(ballot, 0, LAST_BALLOT) else {
-        return Err(Unread::NotThere);
-    };
-    let Some(ballot) = Ballot::numbered(number) else {
-        return Err(Unread::NotThere);
-    };
-    match read_cut(alloc, cut, agents) {
-        Ok(cut) => Ok(Vote { ballot, cut }),
-        Err(why) => Err(why),
-    }
-}
-
-/// The vote, if there is one: its ballot and its cut, or the ballot 0 alone.
+/// The vote, if there is one: its ballot, which is not 0, and its cut, or the ballot 0 alone.
 fn read_vote(alloc: Global, fields: &[u8], agents: u8) -> Result<Option<Vote>, Unread>
     requires from { 1 ≤ agents }
     requires to { agents ≤ most_agents }
@@ -89,15 +68,21 @@ fn read_vote(alloc: Global, fields: &[u8], agents: u8) -> Result<Option<Vote>, U
         × IsVoteAmong agents vote)
         (λ why. IfNotThere why (vote_of_fields agents (fields_in fields.now) ≡ None)) }
 {
-    match split_at_bar(fields) {
-        Some((ballot, cut)) => match read_some_vote(alloc, ballot, cut, agents) {
-            Ok(vote) => Ok(Some(vote)),
-            Err(why) => Err(why),
-        },
-        None => match read_whole(fields, 0, LAST_BALLOT) {
+    let Some((ballot, cut)) = split_at_bar(fields) else {
+        return match read_whole(fields, 0, LAST_BALLOT) {
             Some(0) => Ok(None),
             _ => Err(Unread::NotThere),
-        },
+        };
+    };
+    let Some(number) = read_whole(ballot, 0, LAST_BALLOT) else {
+        return Err(Unread::NotThere);
+    };
+    let Some(ballot) = Ballot::numbered(number) else {
+        return Err(Unread::NotThere);
+    };
+    match read_cut(alloc, cut, agents) {
+        Ok(cut) => Ok(Some(Vote { ballot, cut })),
+        Err(why) => Err(why),
     }
 }
 
