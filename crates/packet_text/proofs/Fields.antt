@@ -1,10 +1,10 @@
 -- Fields of a line that are too many or too few.
-use Rattle.std.proofs.Common.{◌≡◌, ℕ, ◌≤◌, List, [], ◌∷◌, length, Some, None, Ok, refl, ap, ap₂, ◌∙◌, arith}
+use Rattle.std.proofs.Common.{◌≡◌, ◌≢◌, ℕ, ◌≤◌, List, [], ◌∷◌, length, Some, None, Ok, refl, ap, ap₂, ◌∙◌, arith}
 use Rattle.std.specs.Prelude.{◌==◌}
 use Rattle.std.specs.Option.{option_map}
 use Rattle.std.proofs.lemmas.List.Splits.{length-slice_split}
 use Rattle.std.specs.Result.{result_ok}
-use Rattle.std.proofs.lemmas.Bool.{eq-eqb}
+use Rattle.std.proofs.lemmas.Bool.{eq-eqb, eqb-true, false_from_ne_true}
 use Rattle.metering_model.specs.Batch.{Batch}
 use Rattle.metering_model.specs.BatchReading.{batch_in, fields_in, whole_in}
 use Rattle.metering_model.specs.World.{Packet, CarriesBatch}
@@ -55,6 +55,15 @@ no_batch_there numbers below lines fields said none =
     ap (λ fs. batch_packet_in fs below) fields
     ∙ ap (λ o. o >>= λ n. result_ok (batch_in below) >>= λ b. holds (n == lines_of_batch b) >>= λ _. Some (CarriesBatch b)) said
     ∙ ap (λ o. o >>= λ b. holds (lines == lines_of_batch b) >>= λ _. Some (CarriesBatch b)) none
+
+-- a batch below its line that has another number of lines
+pub other_batch_there : (numbers below : List ℕ) (lines : ℕ) (b : Batch) → fields_in numbers ≡ numbers ∷ [] → whole_in 1 1_001 numbers ≡ Some lines → batch_in below ≡ Ok b
+    → lines ≢ lines_of_batch b → batch_packet_in (fields_in numbers) below ≡ None
+other_batch_there numbers below lines b fields said is other =
+    ap (λ fs. batch_packet_in fs below) fields
+    ∙ ap (λ o. o >>= λ n. result_ok (batch_in below) >>= λ b. holds (n == lines_of_batch b) >>= λ _. Some (CarriesBatch b)) said
+    ∙ ap (λ r. result_ok r >>= λ b. holds (lines == lines_of_batch b) >>= λ _. Some (CarriesBatch b)) is
+    ∙ ap (λ t. holds t >>= λ _. Some (CarriesBatch b)) (false_from_ne_true (lines == lines_of_batch b) (λ e. other (eqb-true lines (lines_of_batch b) e)))
 
 -- a batch below its line, which has as many lines as are said
 pub batch_there : (numbers below : List ℕ) (lines : ℕ) (b : Batch) → fields_in numbers ≡ numbers ∷ [] → whole_in 1 1_001 numbers ≡ Some lines → batch_in below ≡ Ok b

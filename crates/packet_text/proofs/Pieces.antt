@@ -1,6 +1,7 @@
 -- A packet's text is put together piece by piece.
-use Rattle.std.proofs.Common.{◌≡◌, ℕ, ◌≤◌, List, [], ◌∷◌, ◌++◌, length, map, codes, decimal, cond, Option, Some, Result, Ok, Err, OnErr, OnOk, is_ok, sym, ap, ap₂, ◌∙◌, arith, append-nil, append_assoc}
+use Rattle.std.proofs.Common.{◌≡◌, ℕ, ◌≤◌, List, [], ◌∷◌, ◌++◌, length, map, take, codes, decimal, cond, Option, Some, Result, Ok, Err, OnErr, OnOk, is_ok, sym, ap, ap₂, ◌∙◌, arith, append-nil, append_assoc}
 use Rattle.std.specs.List.{join_with_byte}
+use Rattle.std.proofs.Math.Seq.{take-append_seam}
 use Rattle.std.proofs.lemmas.List.Concat.{flat_map-append}
 use Rattle.metering_model.specs.Batch.{batch_text, line_of_fields}
 use Rattle.metering_model.specs.BatchReading.{batch_in}
@@ -23,6 +24,10 @@ stayed {old} kept = record { more = []; joined = kept ∙ sym (append-nil old) }
 -- one that grew by a piece, and perhaps goes on
 pub grown : {old mid new : List ℕ} (piece : List ℕ) → mid ≡ old ++ piece → HasBehind mid new → HasBehind old new
 grown {old} piece put on = record { more = piece ++ on.more; joined = on.joined ∙ ap (λ t. t ++ on.more) put ∙ append_assoc old piece on.more }
+
+-- what it grew by is cut off again
+pub cut_back : (old new : List ℕ) (n : ℕ) → n ≡ length old → HasBehind old new → take n new ≡ old
+cut_back old new n size on = ap₂ take size on.joined ∙ take-append_seam old on.more
 
 -- bytes that were appended at once are a piece
 pub puts_bytes : {A E : Type 0} (r : Result A E) (old new bytes piece : List ℕ) → new ≡ cond (is_ok r) (old ++ bytes) old → bytes ≡ piece → Puts r old new piece

@@ -41,7 +41,9 @@ pub fn is_group(name: &[u8]) -> bool
 pub(crate) fn read_period(text: &[u8]) -> Option<Period>
     ensures { result ≡ period_in text.now }
 {
-    let number = read_whole(text, 0, 1_199)?;
+    let Some(number) = read_whole(text, 0, 1_199) else {
+        return None;
+    };
     Period::new(number as u16)
 }
 
@@ -49,7 +51,9 @@ pub(crate) fn read_period(text: &[u8]) -> Option<Period>
 pub(crate) fn read_ballot(text: &[u8]) -> Option<Ballot>
     ensures { result ≡ ballot_in text.now }
 {
-    let number = read_whole(text, 1, 990_098)?;
+    let Some(number) = read_whole(text, 1, 990_098) else {
+        return None;
+    };
     Ballot::numbered(number)
 }
 
@@ -57,14 +61,20 @@ pub(crate) fn read_ballot(text: &[u8]) -> Option<Ballot>
 pub(crate) fn read_node(text: &[u8]) -> Option<u8>
     ensures { result ≡ node_in text.now }
 {
-    Some(read_whole(text, 0, 98)? as u8)
+    let Some(number) = read_whole(text, 0, 98) else {
+        return None;
+    };
+    Some(number as u8)
 }
 
 /// How many lines a batch has, from 1 to 1,001.
 pub(crate) fn read_lines(text: &[u8]) -> Option<u16>
     ensures { result ≡ whole_in 1 most_journal_lines text.now }
 {
-    Some(read_whole(text, 1, 1_001)? as u16)
+    let Some(number) = read_whole(text, 1, 1_001) else {
+        return None;
+    };
+    Some(number as u16)
 }
 
 /// How many fields there are, unless these are more than 64.

@@ -425,7 +425,9 @@ pub fn read_packet(alloc: Global, text: &[u8]) -> Result<Option<GroupPacket>, Al
     };
     match read_word_packet(alloc, head.word, head.numbers, below) {
         Ok(packet) => Ok(Some(GroupPacket::of(copied(head.name), packet))),
-        Err(Unread::NoPacket) => Ok(None),
-        Err(Unread::NoMemory) => Err(AllocError),
+        Err(why) => match why {
+            Unread::NoPacket => Ok(None),
+            Unread::NoMemory => Err(AllocError),
+        },
     }
 }

@@ -200,9 +200,11 @@ pub fn put_packet(text: &mut Vec<u8>, group: &[u8], packet: &Packet) -> Result<(
     ensures kept { OnErr result (text.new.items ≡ text.old.items) }
 {
     let before = text.len();
-    let result = put_whole(text, group, packet);
-    if result.is_err() {
-        text.truncate(before);
+    match put_whole(text, group, packet) {
+        Ok(()) => Ok(()),
+        Err(failed) => {
+            text.truncate(before);
+            Err(failed)
+        }
     }
-    result
 }

@@ -15,16 +15,16 @@ returns-in-Ok c =
     let parts = ap Some (of_parts c.of.result name (packet_of c.in-Ok.packet) (c.of.ensures.group ∙ c.copied.ensures) c.of.ensures.packet) in
     record { read = parts ∙ sym is; limits = (packet_read text c.of.result (is ∙ sym parts)).1; want = tt }
 
-pub returns-in-Err-NoPacket : goal.returns-in-Err-NoPacket
-returns-in-Err-NoPacket c =
+pub returns-in-NoPacket : goal.returns-in-NoPacket
+returns-in-NoPacket c =
     let name = c.in-Some-read_head.head.name.now in
     let below = c.in-Some.below.now in
     let first = at_first_line c.args.text.now c.in-Some.line.now below c.in-Some.ensures in
-    let none = rw c.in-Err-NoPacket.field-0-is at c.in-Err-NoPacket.ensures.read in
+    let none = rw c.in-NoPacket.is at c.in-Err.ensures.read in
     record { read = sym (first ∙ c.in-Some-read_head.ensures.read below ∙ ap (of_group name) none); limits = tt; want = tt }
 
-pub returns-in-Err-NoMemory : goal.returns-in-Err-NoMemory
-returns-in-Err-NoMemory c =
+pub returns-in-NoMemory : goal.returns-in-NoMemory
+returns-in-NoMemory c =
     let first = stored_at_first_line c.args.text.now c.in-Some.line.now c.in-Some.below.now c.in-Some.ensures in
-    let word = rw c.in-Err-NoMemory.field-0-is at c.in-Err-NoMemory.ensures.want in
+    let word = rw c.in-NoMemory.is at c.in-Err.ensures.want in
     record { read = tt; limits = tt; want = first ∙ c.in-Some-read_head.ensures.stored ∙ word }
