@@ -5,6 +5,7 @@ use Rattle.std.specs.Option.{is_some}
 use Rattle.std.proofs.lemmas.Bool.{and_from, and_parts, cases_Bool, cond-true, cond-false, eq-eqb, eqb-true, le-leb, ne_eqb}
 use Rattle.std.proofs.lemmas.Bool.Decides.{nat_tests}
 use Rattle.metering_model.specs.FirstFailure.{◌>>=◌, holds_or}
+use Rattle.metering_model.specs.Ballot.{Acceptor, Vote, new_acceptor}
 use Rattle.metering_model.specs.Batch.{Batch, IsWellFormed}
 use Rattle.metering_model.specs.BatchReading.{batch_in}
 use Rattle.metering_model.specs.Holding.{Holding, comes_before, held, is_batch_at, placed, put, sequences_of}
@@ -15,13 +16,14 @@ use Rattle.metering_model.specs.declared.Refusal.{Refusal}
 use Rattle.metering_model.specs.declared.Refusal.TheVariants.{NoAgent, WrongSeq}
 use Rattle.metering_model.specs.Sheet.{Sheet}
 use Rattle.metering_model.specs.Step.{or_bad_batch, unless_broken}
-use Rattle.metering_model.specs.World.{CarriesBatch, Good}
+use Rattle.metering_model.specs.Cut.{Cut}
+use Rattle.metering_model.specs.World.{CarriesBatch, Good, Kept}
 use Rattle.metering_model.proofs.BatchOrder.{place_of_batch, put_cases}
 use Rattle.metering_model.proofs.Journals.{sequences-of_agent}
-use Rattle.process_laws.specs.LocalSteps.{AgentDone, Group, HasJournaled, JournalBatch, OfModel, agent_does, batch_to_journal, journal_refusal, refusing, unmoved_journal}
+use Rattle.process_laws.specs.LocalSteps.{AgentDone, Group, HasJournaled, JournalBatch, OfModel, agent_does, batch_to_journal, journal_kept, journal_refusal, refusing, unmoved_journal}
 use Rattle.log_text.specs.LogText.{Takes}
 use Rattle.group_process.specs.Added.{AddsJust}
-use Rattle.group_process.specs.Journals.{are_journaled_from, is_journal_of}
+use Rattle.group_process.specs.Journals.{are_journaled_from, is_empty_acceptor, is_journal_of, is_nothing, keeps_journal_of}
 use Rattle.group_process.specs.Selves.{AgentSelf, kept_of_agent}
 
 abbrev IsFrom : ℕ → ℕ → Holding → Type 0
@@ -107,6 +109,29 @@ put_behind a s (c ∷ h) b is agent seq =
 
 pub is_journal_with : (a : ℕ) (h : Holding) (b : Batch) → is_journal_of a h ≡ true → b.agent ≡ a → b.seq ≡ next_seq h a → is_journal_of a (put h b) ≡ true
 is_journal_with a h b is agent seq = put_behind a 1 h b is agent (omega (arith, seq, length_of_journal a 1 h is))
+
+-- ---- what is kept of a journal
+
+no_cuts : (cuts : List Cut) → is_nothing cuts ≡ true → cuts ≡ []
+no_cuts [] e = refl
+no_cuts (c ∷ cs) e = absurd (cc)
+
+nothing_promised : (promised : Option ℕ) (vote : Option Vote) → is_empty_acceptor (record { promised = promised; vote = vote }) ≡ true → new_acceptor ≡ record { promised = promised; vote = vote }
+nothing_promised None None e = refl
+nothing_promised None (Some v) e = absurd (cc)
+nothing_promised (Some b) vote e = absurd (cc)
+
+of_parts : (round : ℕ) (cuts : List Cut) (a : Acceptor) (h : Holding) → round ≡ 0 → cuts ≡ [] → a ≡ new_acceptor → journal_kept h ≡ record { round = round; learned = cuts; acceptor = a; holding = h }
+of_parts round cuts a h none nothing empty = rw (none, nothing, empty) refl
+
+-- What keeps a journal, and nothing of a node, is made of the journal alone.
+pub journal_alone : (a : ℕ) (k : Kept) → keeps_journal_of a k ≡ true → (k ≡ journal_kept k.holding) × (is_journal_of a k.holding ≡ true)
+journal_alone a k is =
+    let last = and_parts ((k.round == 0) && is_nothing k.learned && is_empty_acceptor k.acceptor) (is_journal_of a k.holding) is in
+    let third = and_parts ((k.round == 0) && is_nothing k.learned) (is_empty_acceptor k.acceptor) last.0 in
+    let both = and_parts (k.round == 0) (is_nothing k.learned) third.0 in
+    let acceptor = sym (nothing_promised k.acceptor.promised k.acceptor.vote third.1) in
+    (sym (of_parts k.round k.learned k.acceptor k.holding (eqb-true k.round 0 both.0) (no_cuts k.learned both.1) acceptor), last.1)
 
 -- ---- what may be journaled
 

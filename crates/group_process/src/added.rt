@@ -7,6 +7,7 @@ ghost use Rattle.group_process.specs.Added.{increment_after};
 ghost use Rattle.group_process.specs.Selves.{kept_of_node};
 
 use crate::nodes::NodeProcess;
+use group_node::Node;
 use log_text::Increment;
 
 /// What a step added to what a process keeps, if anything.
@@ -24,6 +25,22 @@ pub enum Added {
     Batch { agent: u8, seq: u32 },
 }
 
+/// The line of the cut that a node learned last.
+fn last_learned(node: &Node) -> Option<Increment<'_>>
+    ensures { option_map increment_of result
+        ≡ increment_after Added.Learned
+        (record { agents = node.now.agents; kept = node.now.node.kept }) }
+{
+    let periods = node.current_period();
+    if periods == 0 {
+        return None;
+    }
+    match node.learned(periods - 1) {
+        Some(cut) => Some(Increment::Learned(periods - 1, cut)),
+        None => None,
+    }
+}
+
 impl NodeProcess {
     /// The lines that what was added by the last step has in a log. It is lent from what the node keeps.
     pub fn increment(&self, added: Added) -> Option<Increment<'_>>
@@ -36,26 +53,11 @@ impl NodeProcess {
                 self.node.current_period(),
                 self.node.acceptor(),
             )),
-            Added::Learned => self.last_learned(),
+            Added::Learned => last_learned(&self.node),
             Added::Batch { agent, seq } => match self.held(agent, seq) {
                 Some(batch) => Some(Increment::Batch(batch)),
                 None => None,
             },
-        }
-    }
-
-    /// The line of the cut that was learned last.
-    fn last_learned(&self) -> Option<Increment<'_>>
-        ensures { option_map increment_of result
-            ≡ increment_after Added.Learned (kept_of_node self.now) }
-    {
-        let periods = self.node.current_period();
-        if periods == 0 {
-            return None;
-        }
-        match self.node.learned(periods - 1) {
-            Some(cut) => Some(Increment::Learned(periods - 1, cut)),
-            None => None,
         }
     }
 }

@@ -12,48 +12,48 @@ ghost use Rattle.group_process.specs.Inner.Snapshots.{snapshot_up_to};
 use crate::nodes::NodeProcess;
 use crate::refusals::ProcessRefusal;
 use group_events::{Cut, Period, Snapshot};
+use group_node::Node;
 use journal_rules::first_broken_up_to;
 use std::alloc::{AllocError, Global};
 use std::sync::Arc;
 
+/// Whether the cut of a period, which a node has to have learned, goes on from that of the period before. The first goes on from
+/// the zero cut, as each entry is at least 0.
+fn goes_on(node: &Node, period: u16) -> bool
+    requires { period < length node.now.node.kept.learned }
+    ensures { result ≡ goes_on (zero_cut node.now.agents) node.now.node.kept.learned period }
+{
+    // For the proof alone: its clause says that each learned cut has an entry for each agent.
+    let _voters = node.voters();
+    if period == 0 {
+        return true;
+    }
+    let Some(before) = node.learned(period - 1) else {
+        return false;
+    };
+    let Some(cut) = node.learned(period) else {
+        return false;
+    };
+    cut.at_least(before)
+}
+
+/// Whether the cuts that a node has learned up to a period, which has to be one of them, each go on from the one before.
+fn has_growing_cuts(node: &Node, period: u16) -> bool
+    requires { period < length node.now.node.kept.learned }
+    ensures { result ≡ are_growing (zero_cut node.now.agents)
+        (take (period + 1) node.now.node.kept.learned) }
+{
+    // For the proof alone: its clause says that there are no more periods than 1,200.
+    let _learned = node.current_period();
+    for next in 0..period + 1 {
+        if !goes_on(node, next) {
+            return false;
+        }
+    }
+    true
+}
+
 impl NodeProcess {
-    /// Whether the cut of a period, which has to be learned, goes on from that of the period before. The first goes on from the
-    /// zero cut, as each entry is at least 0.
-    fn goes_on(&self, period: u16) -> bool
-        requires { period < length self.now.node.kept.learned }
-        ensures { result
-            ≡ goes_on (zero_cut self.now.group.agents) self.now.node.kept.learned period }
-    {
-        // For the proof alone: its clause says that each learned cut has an entry for each agent.
-        let _voters = self.node.voters();
-        if period == 0 {
-            return true;
-        }
-        let Some(before) = self.node.learned(period - 1) else {
-            return false;
-        };
-        let Some(cut) = self.node.learned(period) else {
-            return false;
-        };
-        cut.at_least(before)
-    }
-
-    /// Whether the cuts that were learned up to a period, which has to be one of them, each go on from the one before.
-    fn has_growing_cuts(&self, period: u16) -> bool
-        requires { period < length self.now.node.kept.learned }
-        ensures { result ≡ are_growing (zero_cut self.now.group.agents)
-            (take (period + 1) self.now.node.kept.learned) }
-    {
-        // For the proof alone: its clause says that there are no more periods than 1,200.
-        let _learned = self.node.current_period();
-        for next in 0..period + 1 {
-            if !self.goes_on(next) {
-                return false;
-            }
-        }
-        true
-    }
-
     /// Whether a file may be made of a period, which was learned, and up to whose cut the node has each batch.
     fn is_fit(&self, period: u16, to: &Cut) -> bool
         requires learned { slice_get self.now.node.kept.learned period ≡ Some to.now }
@@ -63,7 +63,7 @@ impl NodeProcess {
     {
         // For the proof alone: its clause says that each learned cut has an entry for each agent.
         let _voters = self.node.voters();
-        self.has_growing_cuts(period)
+        has_growing_cuts(&self.node, period)
             && first_broken_up_to(self.node.store(), self.group.sheet(), to).is_none()
     }
 
@@ -115,7 +115,9 @@ impl NodeProcess {
         ensures { IfOk result (λ answer.
             exported_answer answer ≡ exporting self.now.group self.now.node period) }
     {
-        let from = self.node.cut_before(alloc, period)?;
+        let Ok(from) = self.node.cut_before(alloc, period) else {
+            return Err(AllocError);
+        };
         if !self.is_fit(period, to) {
             return Ok(Err(ProcessRefusal::Unfit));
         }

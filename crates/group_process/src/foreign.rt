@@ -1,7 +1,6 @@
 //! Which packets are of a group.
 
 ghost use Rattle.std.specs.Prelude.{◌≡◌, ◌&&◌, nat_le, nat_lt};
-ghost use Rattle.std.specs.Option.{option_copied};
 ghost use Rattle.group_events.specs.Batches.{batch_of};
 ghost use Rattle.group_node.specs.Packets.{packet_of};
 ghost use Rattle.process_laws.specs.LocalSteps.{is_ballot_of, is_cut_of, is_of_group, is_packet_of, is_period, is_vote_of};
@@ -40,8 +39,8 @@ impl Group {
     }
 
     /// Whether a promise's vote, if it tells one, is of such a ballot and such a cut.
-    fn has_vote(&self, vote: Option<&Vote>) -> bool
-        ensures { result ≡ is_vote_of self.now.voters self.now.agents (option_copied vote.entry) }
+    fn has_vote(&self, vote: &Option<Vote>) -> bool
+        ensures { result ≡ is_vote_of self.now.voters self.now.agents vote.now }
     {
         match vote {
             Some(vote) => self.has_ballot(vote.ballot) && self.has_cut(&vote.cut),
@@ -83,7 +82,7 @@ impl Group {
                 period,
                 ballot,
                 vote,
-            } => self.has_attempt_of(*from, *period, *ballot) && self.has_vote(vote.as_ref()),
+            } => self.has_attempt_of(*from, *period, *ballot) && self.has_vote(vote),
             Packet::Accept {
                 period,
                 ballot,

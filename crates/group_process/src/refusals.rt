@@ -3,7 +3,7 @@
 use metering_model::Refusal;
 
 /// Why a process does not do what it is asked. Nothing has changed then.
-#[derive(Clone, Copy, Debug, PartialEq, Eq, Drop)]
+#[derive(Clone, Copy, Drop)]
 pub enum ProcessRefusal {
     /// By a word of the model's refusals.
     OfModel(Refusal),

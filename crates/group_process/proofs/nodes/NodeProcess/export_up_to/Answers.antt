@@ -20,14 +20,14 @@ pub snapshot-requires : goal.snapshot-requires
 snapshot-requires c = record {
   from = let learned = ap (λ (n : NodeSelf). n.node.kept.learned) c.self.view_is in
       let agents = c.self.invariant.1 ∙ ap (λ (n : NodeSelf). n.group.agents) c.self.view_is in
-      rw (c.requires.of) (c.in_ok-from.ensures ∙ ap₂ (λ a cuts. cut_before a cuts c.args.period) agents learned);
+      rw (c.requires.of) (c.in-Ok.ensures ∙ ap₂ (λ a cuts. cut_before a cuts c.args.period) agents learned);
   learned = rw (c.requires.of) c.requires.learned;
   whole = c.requires.whole;
   fit = rw (c.requires.of, ← c.deref.ensures) (sym c.is_fit.ensures ∙ c.if-not-is_fit.false);
 }
 
-pub returns-in-Ok : goal.returns-in-Ok
-returns-in-Ok c =
+pub returns-in-Ok-snapshot : goal.returns-in-Ok-snapshot
+returns-in-Ok-snapshot c =
     let n = c.args.self.now in
     let to = arc_value c.args.to.now in
-    rw (c.in-Ok.ensures, c.requires.of) (exported_told n.group n.node c.args.period to c.requires.learned c.requires.whole (rw (← c.deref.ensures) (sym c.is_fit.ensures ∙ c.if-not-is_fit.false)))
+    rw (c.in-Ok-snapshot.ensures, c.requires.of) (exported_told n.group n.node c.args.period to c.requires.learned c.requires.whole (rw (← c.deref.ensures) (sym c.is_fit.ensures ∙ c.if-not-is_fit.false)))

@@ -1,12 +1,9 @@
-use Rattle.std.proofs.Common.{◌≡◌, ◌+◌, suc, length, refl, sym, ap, arith}
-use Rattle.group_process.specs.Selves.{NodeSelf}
+use Rattle.std.proofs.Common.{◌≡◌, ◌+◌, suc, refl, sym, arith}
 use Rattle.group_process.proofs.Growing.{grow_more, grow_not}
-use Rattle.group_process.proofs.nodes.NodeProcess.has_growing_cuts.Goals as goal
+use Rattle.group_process.proofs.exporting.has_growing_cuts.Goals as goal
 
 pub overflow_add-next-end : goal.overflow_add-next-end
-overflow_add-next-end c =
-    let same = ap (λ (n : NodeSelf). length n.node.kept.learned) c.self.view_is in
-    omega (arith, same)
+overflow_add-next-end c = omega arith
 
 pub loop-next-init : goal.loop-next-init
 loop-next-init c = refl
