@@ -184,8 +184,8 @@ impl AgentProcess {
         if view.seq() != wanted {
             return Some(Refusal::WrongSeq { wanted });
         }
-        let (kept, group) = (&self.kept, &self.group);
-        unless_broken(first_broken(&kept.store, group.sheet(), &view))
+        let kept = &self.kept;
+        unless_broken(first_broken(&kept.store, self.group.sheet(), &view))
     }
 
     /// Puts a batch into the journal that may be journaled, and gives it out. An error is an allocation failure, and leaves the

@@ -24,7 +24,7 @@ fn goes_on(node: &Node, period: u16) -> bool
     ensures { result ≡ goes_on (zero_cut node.now.agents) node.now.node.kept.learned period }
 {
     // For the proof alone: its clause says that each learned cut has an entry for each agent.
-    let _voters = node.voters();
+    node.voters();
     if period == 0 {
         return true;
     }
@@ -44,7 +44,7 @@ fn has_growing_cuts(node: &Node, period: u16) -> bool
         (take (period + 1) node.now.node.kept.learned) }
 {
     // For the proof alone: its clause says that there are no more periods than 1,200.
-    let _learned = node.current_period();
+    node.current_period();
     for next in 0..period + 1 {
         if !goes_on(node, next) {
             return false;
@@ -62,7 +62,7 @@ impl NodeProcess {
             (snapshot_up_to self.now.group self.now.node period to.now) }
     {
         // For the proof alone: its clause says that each learned cut has an entry for each agent.
-        let _voters = self.node.voters();
+        self.node.voters();
         has_growing_cuts(&self.node, period)
             && first_broken_up_to(self.node.store(), self.group.sheet(), to).is_none()
     }
@@ -87,7 +87,8 @@ impl NodeProcess {
         // For the proof alone: their clauses say that each learned cut has an entry for each agent, and that the batches are a
         // holding.
         let store = self.node.store();
-        let (_voters, _agents) = (self.node.voters(), store.agents());
+        self.node.voters();
+        store.agents();
         let Ok(to) = Arc::try_clone(to) else {
             return Err(AllocError);
         };

@@ -114,7 +114,8 @@ impl NodeProcess {
         ensures { IsLikely self.now.node (CarriesBatch (batch_of batch.now)) result }
     {
         let view = batch.view();
-        let (agent, seq) = (view.agent(), view.seq());
+        let agent = view.agent();
+        let seq = view.seq();
         if self.held(agent, seq).is_some() {
             Added::Nothing
         } else {

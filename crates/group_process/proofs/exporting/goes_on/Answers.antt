@@ -5,7 +5,7 @@ use Rattle.group_process.proofs.exporting.goes_on.Goals as goal
 
 pub returns-then-period-eq0 : goal.returns-then-period-eq0
 returns-then-period-eq0 c =
-    rw (c.if-period-eq0.true) (sym (first_goes_on _ _ c.voters-voters.ensures.within.kept.cuts (omega (arith, c.if-period-eq0.true))))
+    rw (c.if-period-eq0.true) (sym (first_goes_on _ _ c.voters.ensures.within.kept.cuts (omega (arith, c.if-period-eq0.true))))
 
 pub returns-in_default : goal.returns-in_default
 returns-in_default c =
@@ -17,7 +17,7 @@ returns-in_default-learned c = absurd (none_absent c.args.node.now.node.kept.lea
 
 pub at_least-requires : goal.at_least-requires
 at_least-requires c =
-    let sizes = c.voters-voters.ensures.within.kept.cuts in
+    let sizes = c.voters.ensures.within.kept.cuts in
     let before = learned_size _ _ _ _ sizes (sym c.in-Some.ensures) in
     let cut = learned_size _ _ _ _ sizes (sym c.in-Some-learned.ensures) in
     ap length c.deref.ensures ∙ (cut ∙ sym (ap length c.deref-2.ensures ∙ before))

@@ -19,7 +19,7 @@ pub first_broken_up_to-requires-clause-agents : goal.first_broken_up_to-requires
 first_broken_up_to-requires-clause-agents c =
     let learned = ap (λ (n : NodeSelf). n.node.kept.learned) c.self.view_is in
     let found = ap (λ (cuts : List Cut). slice_get cuts c.args.period) learned ∙ c.requires.learned in
-    learned_size _ _ _ _ c.voters-voters.ensures.within.kept.cuts found ∙ sym (ap (λ (s : Stored). s.agents) c.store.ensures)
+    learned_size _ _ _ _ c.voters.ensures.within.kept.cuts found ∙ sym (ap (λ (s : Stored). s.agents) c.store.ensures)
 
 pub first_broken_up_to-requires-clause-whole : goal.first_broken_up_to-requires-clause-whole
 first_broken_up_to-requires-clause-whole c =

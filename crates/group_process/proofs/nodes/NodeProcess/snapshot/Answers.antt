@@ -14,7 +14,7 @@ pub of-requires-clause-agents : goal.of-requires-clause-agents
 of-requires-clause-agents c =
     let learned = ap (λ (n : NodeSelf). n.node.kept.learned) c.self.view_is in
     let found = ap (λ (cuts : List Cut). slice_get cuts c.args.of) learned ∙ c.requires.learned in
-    let size = learned_size _ _ _ _ c.voters-voters.ensures.within.kept.cuts found in
+    let size = learned_size _ _ _ _ c.voters.ensures.within.kept.cuts found in
     ap length c.in-Ok.ensures ∙ (size ∙ sym (ap (λ (s : Stored). s.agents) c.store-store.ensures))
 
 pub of-requires-clause-grows : goal.of-requires-clause-grows
@@ -32,7 +32,7 @@ of-requires-clause-met c =
     let w = c.args.self.now in
     let holding = ap (λ (s : Stored). s.batches) c.store-store.ensures ∙ ap (λ (n : NodeSelf). n.node.kept.holding) c.self.view_is in
     let sheet = c.in-Ok-try_clone.ensures ∙ (c.sheet.ensures ∙ ap (λ (n : NodeSelf). n.group.sheet) c.self.view_is) in
-    rw (sheet, c.in-Ok.ensures, holding) (fit_meets w.group w.node c.args.of _ c.requires.fit (subst IsHolding holding c.agents-agents.ensures.stored.is_holding) c.requires.whole)
+    rw (sheet, c.in-Ok.ensures, holding) (fit_meets w.group w.node c.args.of _ c.requires.fit (subst IsHolding holding c.agents.ensures.stored.is_holding) c.requires.whole)
 
 pub returns : goal.returns
 returns c =
