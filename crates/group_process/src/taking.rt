@@ -78,27 +78,6 @@ fn added_for(likely: Added, handled: &Handled) -> Added
     }
 }
 
-/// Learns that a packet's batch and its cut keep the limits of their types. Nothing is done.
-fn know_packet(packet: &Packet)
-    ensures { HasLowParts (packet_of packet.now) }
-{
-    match packet {
-        Packet::Batch(batch) => {
-            batch.bytes();
-        }
-        Packet::Accept { cut, .. } => {
-            cut.agents();
-        }
-        Packet::Accepted { cut, .. } => {
-            cut.agents();
-        }
-        Packet::Decided { cut, .. } => {
-            cut.agents();
-        }
-        _ => {}
-    }
-}
-
 /// Learns that a vote's cut keeps the limits of its type. Nothing is done.
 fn know_vote(acceptor: &Acceptor)
     ensures { HasLowVote acceptor.now }
@@ -123,17 +102,32 @@ impl NodeProcess {
         }
     }
 
-    /// What taking a packet may add: a batch that the node lacks; what it promises or accepts, unless it has done so before.
+    /// What taking a packet may add: a batch that the node lacks; what it promises or accepts, unless it has done so before. A
+    /// packet's batch and its cut keep the limits of their types.
     fn added_by(&self, packet: &Packet) -> Added
-        ensures { IsLikely self.now.node (packet_of packet.now) result }
+        ensures likely { IsLikely self.now.node (packet_of packet.now) result }
+        ensures parts { HasLowParts (packet_of packet.now) }
     {
+        // For the proof alone: the clauses of `bytes` and `agents` say what batch and cut keep by their types.
         match packet {
-            Packet::Batch(batch) => self.added_by_batch(batch),
+            Packet::Batch(batch) => {
+                batch.bytes();
+                self.added_by_batch(batch)
+            }
             Packet::Prepare { .. } => Added::Ballots,
+            Packet::Promise { .. } => Added::Nothing,
             Packet::Accept { ballot, cut, .. } => {
+                cut.agents();
                 added_by_vote(self.node.acceptor(), *ballot, cut)
             }
-            _ => Added::Nothing,
+            Packet::Accepted { cut, .. } => {
+                cut.agents();
+                Added::Nothing
+            }
+            Packet::Decided { cut, .. } => {
+                cut.agents();
+                Added::Nothing
+            }
         }
     }
 
@@ -162,7 +156,6 @@ impl NodeProcess {
         self.group.sizes();
         self.node.voters();
         self.node.store().agents();
-        know_packet(packet);
         know_vote(self.node.acceptor());
         let likely = self.added_by(packet);
         let base = self.group.sheet().base_month();

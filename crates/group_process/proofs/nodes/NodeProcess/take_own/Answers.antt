@@ -48,11 +48,11 @@ returns c =
     let sizes : IsGroup g = c.sizes.ensures.within in
     let nodes = sizes.nodes in
     let is = subst (λ (s : NodeSelf). is_packet_of s.group.voters s.group.agents p ≡ true) (sym c.self.view_is) c.requires in
-    let likely = subst (λ (s : NodeSelf). IsLikely s.node p x) (sym c.self.view_is) c.added_by-likely.ensures in
+    let likely = subst (λ (s : NodeSelf). IsLikely s.node p x) (sym c.self.view_is) c.added_by-likely.ensures.likely in
     let holding = subst IsHolding (ap (λ (s : Stored). s.batches) c.store.ensures) c.agents.ensures.stored.is_holding in
     let kept = subst (λ a. IsKept (record { agents = a; kept = n.kept })) c.self.invariant.1 c.voters.ensures.within.kept in
     let low = subst HasLowVote c.acceptor.ensures c.know_vote.ensures in
-    let just = adds_what_is_told w c.self.inside.number n holding kept low g.voters p x sizes.voters (omega (arith, nodes)) is c.know_packet.ensures likely in
+    let just = adds_what_is_told w c.self.inside.number n holding kept low g.voters p x sizes.voters (omega (arith, nodes)) is c.added_by-likely.ensures.parts likely in
     let base = c.base_month-base.ensures.value ∙ ap (λ (s : Sheet). s.base) (c.deref.ensures ∙ c.sheet.ensures) in
     let there = c.in-Ok.ensures.does.handles w (sym base) (sym c.self.invariant.1) (sym c.self.invariant.0) in
     let after = kept_now w c.handle.new.self.node in
