@@ -16,6 +16,19 @@ stops_reading {A} {B} {e} {f' = f'} it same = record {
   count = it.reads ∙ ap (λ b. count_after b f') (sym (tells_same A B e)) ∙ ap (count_after (tells_of_reader {A = B} (Err e))) same;
 }
 
+tells_written : (A B : Type 0) (e : ProcessFault) → tells_of_writer {A = A} (Err e) ≡ tells_of_writer {A = B} (Err e)
+tells_written A B Read = refl
+tells_written A B (Section fault) = refl
+tells_written A B (Log code line) = refl
+tells_written A B OtherLog = refl
+tells_written A B NoJournal = refl
+tells_written A B TooLong = refl
+tells_written A B Write = refl
+tells_written A B OutOfMemory = refl
+
+pub stops_writing : {A : Type 0} (B : Type 0) {e : ProcessFault} {read f h w w' v : ℕ} → ReadsAndWrites {A = A} (Err e) read f h w' v → w' ≡ w → v ≡ count_after (tells_of_writer {A = B} (Err e)) w
+stops_writing {A} B {e} {w' = w'} it same = it.writes ∙ ap (λ b. count_after b w') (tells_written A B e) ∙ ap (count_after (tells_of_writer {A = B} (Err e))) same
+
 -- ---- it is of reading on alone
 
 silent_writes : (B P : Type 0) (e : ProcessFault) → IsOfReading P e → tells_of_writer {A = B} (Err e) ≡ false
@@ -70,7 +83,38 @@ serving_answer P Q TooLong it = other_fault it (λ h. cc) (λ h. cc)
 serving_answer P Q Write it = tt
 serving_answer P Q OutOfMemory it = tt
 
+silent_answer : (B Q : Type 0) (e : ProcessFault) → IsOfAnswer Q e → tells_of_reader {A = B} (Err e) ≡ false
+silent_answer B Q Read it = other_fault it (λ h. cc) (λ h. cc)
+silent_answer B Q (Section fault) it = refl
+silent_answer B Q (Log code line) it = refl
+silent_answer B Q OtherLog it = refl
+silent_answer B Q NoJournal it = refl
+silent_answer B Q TooLong it = refl
+silent_answer B Q Write it = refl
+silent_answer B Q OutOfMemory it = refl
+
+-- behind a call that read
+pub answering_calls : {A B : Type 0} {r : Result B ProcessFault} {x : A} (C Q : Type 0) (e : ProcessFault) {read f h w v : ℕ} → r ≡ Err e → IsOfAnswer Q e
+    → Reads {A = A} (Ok x) read f h → v ≡ count_after (tells_of_writer {A = C} (Err e)) w → ReadsAndWrites r read f h w v
+answering_calls {A} {B} C Q e {read} {f} {h} {w} {v} is of it written =
+    subst (λ (x : Result B ProcessFault). ReadsAndWrites x read f h w v) (sym is)
+    (record {
+      within = tt;
+      reads = it.count ∙ ap (λ b. count_after b f) (sym (silent_answer B Q e of));
+      writes = written ∙ ap (λ b. count_after b w) (tells_written C B e);
+    })
+
 -- ---- the whole
+
+pub no_refusal : (P : Type 0) (e : ProcessFault) → IsOfServing P e → IsRefusal e → ⊥
+no_refusal P Read it is = is
+no_refusal P (Section fault) it is = it
+no_refusal P (Log code line) it is = it
+no_refusal P OtherLog it is = it
+no_refusal P NoJournal it is = it
+no_refusal P TooLong it is = is
+no_refusal P Write it is = is
+no_refusal P OutOfMemory it is = is
 
 pub refusal_no_write : {e : ProcessFault} → IsRefusal e → e ≢ Write
 refusal_no_write it h = subst IsRefusal h it

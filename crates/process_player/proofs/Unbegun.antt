@@ -1,7 +1,8 @@
 -- Where what is ahead falls short, what had come begins no process.
-use Rattle.std.proofs.Common.{◌≡◌, ◌≢◌, ℕ, ◌+◌, ◌≤◌, Bool, true, false, cond, List, [], ◌∷◌, ◌++◌, length, take, drop, Option, Some, None, Ok, codes, refl, sym, ap, ap₂, ◌∙◌, arith, append_assoc, append-nil, leb-true, le-leb}
+use Rattle.std.proofs.Common.{◌≡◌, ◌≢◌, ℕ, ◌+◌, ◌≤◌, Bool, true, false, cond, List, [], ◌∷◌, ◌++◌, length, take, drop, Option, Some, None, Ok, codes, refl, sym, ap, ap₂, subst, ◌∙◌, arith, append_assoc, append-nil, leb-true, le-leb}
 use Rattle.std.specs.Prelude.{nat_le}
 use Rattle.std.specs.List.{list_all}
+use Rattle.std.specs.Io.KnownBytes.{Consumes, prepend_known}
 use Rattle.std.specs.Option.{option_map}
 use Rattle.std.proofs.Math.Seq.{drop-append_seam, take-append_seam}
 use Rattle.std.proofs.lemmas.Bool.{cond-true}
@@ -22,8 +23,9 @@ use Rattle.process_text.specs.declared.processes.Process.{Process}
 use Rattle.process_player.specs.declared.heads.ProcessKind.{ProcessKind}
 use Rattle.process_player.specs.Refusals.{log_there, preamble_lines, section_below, section_lines, stored_lines, with_issuer}
 use Rattle.process_player.specs.Runs.{BeginsNone}
+use Rattle.process_player.specs.Inner.Fronts.{IsPreambleShort}
 use Rattle.process_player.specs.Starts.{Begins, HasLog, HasNone, IsStored, Preamble, preamble_in}
-use Rattle.process_player.specs.Inner.Reading.{AreStoredShort, HasRead, LacksBeginning, LacksPreamble, LacksStored}
+use Rattle.process_player.specs.Inner.Reading.{AreStoredShort, HasRead, FallsShort}
 use Rattle.process_player.proofs.CommandTexts.{lines_with}
 use Rattle.process_player.proofs.Fronts.{preamble_front, section_on}
 use Rattle.process_player.proofs.Passing.{passes_more}
@@ -184,10 +186,16 @@ module _ {k : ProcessKind} {text : List ℕ} {p : Process} (it : Begins k text p
   begins_first : (more : List ℕ) → text ++ more ≡ it.first ++ (it.stored ++ more)
   begins_first more = ap (λ t. t ++ more) it.joined ∙ append_assoc it.first it.stored more
 
-pub no_preamble : (k : ProcessKind) {a b : List ℕ} {l m : Option (List ℕ)} → LacksPreamble a b l m → LacksBeginning k a l m
-no_preamble k {a} {b} it = record {
-  came = it.passes.came;
-  consumed = it.passes.consumed;
+-- what came behind what was ahead is all that came
+all_consumed : (a : List ℕ) (l m : Option (List ℕ)) (came : List ℕ) → Consumes l m came → Consumes (prepend_known a l) m (a ++ came)
+all_consumed a None m came it = tt
+all_consumed a (Some xs) None came it = it
+all_consumed a (Some xs) (Some ys) came it = ap (λ t. a ++ t) it ∙ sym (append_assoc a came ys)
+
+pub no_preamble : (k : ProcessKind) {a b : List ℕ} {l m : Option (List ℕ)} → FallsShort IsPreambleShort a b l m → BeginsNone k (prepend_known a l) m
+no_preamble k {a} {b} {l} {m} it = record {
+  came = a ++ it.passes.came;
+  consumed = all_consumed a l m it.passes.came it.passes.consumed;
   none = λ text more p begins is.
       let here : b ≡ begins.first ++ (begins.stored ++ more) = sym it.passes.joined ∙ is ∙ begins_first begins more in
       let whole = begins_whole begins in
@@ -195,12 +203,12 @@ no_preamble k {a} {b} it = record {
 }
 
 pub no_stored : {k : ProcessKind} {own : ReadLog} {sheet : Sheet} {issuer : Issuer} {next : ℕ} {a b c : List ℕ} {l m n : Option (List ℕ)}
-    → HasRead k own sheet issuer next a b l m → LacksStored next b c m n → LacksBeginning k a l n
-no_stored {k} {own} {sheet} {issuer} {next} {c = c} it there =
+    → HasRead k own sheet issuer next a b l m → FallsShort (AreStoredShort next) b c m n → BeginsNone k (prepend_known a l) n
+no_stored {k} {own} {sheet} {issuer} {next} {a} {c = c} {l = l} {n = n} it there =
     let all = passes_more it.passes there.passes in
     record {
-      came = all.came;
-      consumed = all.consumed;
+      came = a ++ all.came;
+      consumed = all_consumed a l n all.came all.consumed;
       none = λ text more p begins is.
           let whole = whole_preamble k it.text (record { own = own; sheet = sheet; issuer = issuer; rest = it.behind }) it.is_read it.whole in
           let stored : c ≡ begins.stored ++ more =
@@ -209,9 +217,6 @@ no_stored {k} {own} {sheet} {issuer} {next} {c = c} it there =
     }
 
 -- where nothing was ahead
-pub begins_none : {k : ProcessKind} {a : List ℕ} {l m : Option (List ℕ)} → a ≡ [] → LacksBeginning k a l m → BeginsNone k l m
-begins_none none it = record {
-  came = it.came;
-  consumed = it.consumed;
-  none = λ text more p begins is. it.none text more p begins (ap (λ t. t ++ it.came) none ∙ is);
-}
+pub begins_none : {k : ProcessKind} {a : List ℕ} {m : Option (List ℕ)} (l : Option (List ℕ)) → a ≡ [] → BeginsNone k (prepend_known a l) m → BeginsNone k l m
+begins_none None none it = it
+begins_none {k} {m = m} (Some xs) none it = subst (λ t. BeginsNone k (Some (t ++ xs)) m) none it

@@ -1,21 +1,23 @@
 //! A process is begun, by what a stream gives first.
 
 ghost use Rattle.std.specs.Arc.{arc_value};
+ghost use Rattle.std.specs.Io.KnownBytes.{prepend_known};
 ghost use Rattle.std.specs.Prelude.{◌≡◌, ◌<◌, ◌≤◌, length, IfErr, IfOk, MatchOption, unwrap_or, ◌≢◌, Err};
 ghost use Rattle.process_player.specs.declared.faults.ProcessFault.{ProcessFault};
 ghost use Rattle.metering_model.specs.Limits.{most_transcript_bytes};
 ghost use Rattle.log_text.specs.Heads.{who_of};
 ghost use Rattle.log_text.specs.LogText.{IsLogHead};
 ghost use Rattle.process_player.specs.Refusals.{IsNoJournal, Rejects};
+ghost use Rattle.process_player.specs.Runs.{BeginsNone};
 ghost use Rattle.process_player.specs.Starts.{GoesOn};
 ghost use Rattle.process_player.specs.Inner.Calls.{Reads};
 ghost use Rattle.process_player.specs.Inner.Groups.{IsAmong, group_said};
-ghost use Rattle.process_player.specs.Inner.Reading.{HasBegun, LacksBeginning};
+ghost use Rattle.process_player.specs.Inner.Reading.{HasBegun};
 ghost use Rattle.process_player.specs.Inner.Refusing.{OfAll};
 
 use crate::faults::ProcessFault;
 use crate::heads::{ProcessKind, drop_log};
-use crate::preambles::{Preamble, drop_issuer, drop_preamble, drop_sheet, read_preamble};
+use crate::preambles::{Preamble, drop_preamble, read_preamble};
 use crate::stored::read_stored;
 use counted_io::Source;
 use group_process::{AgentProcess, Group, NodeProcess};
@@ -52,7 +54,8 @@ fn group_sharing(
     match Arc::new(alloc, issuer) {
         Ok(issuer) => Ok(group_with(head, sheet, issuer)),
         Err(unshared) => {
-            drop_issuer(unshared.value);
+            // Dropped by calls for the prover's time alone, here and below (docs/DECISIONS.md).
+            drop(unshared.value);
             drop_shared(sheet);
             Err(AllocError)
         }
@@ -72,8 +75,8 @@ fn group_of(
     match Arc::new(alloc, sheet) {
         Ok(sheet) => group_sharing(alloc, head, sheet, issuer),
         Err(unshared) => {
-            drop_sheet(unshared.value);
-            drop_issuer(issuer);
+            drop(unshared.value);
+            drop(issuer);
             Err(AllocError)
         }
     }
@@ -87,10 +90,10 @@ fn process_of(alloc: Global, group: Group, who: Who, kept: Kept) -> Option<Proce
 {
     match who {
         Who::Node(number) => Some(Process::Node(NodeProcess::go_on(alloc, group, number, kept))),
-        Who::Agent(number) => {
-            let agent = AgentProcess::go_on(group, number, kept)?;
-            Some(Process::Agent(agent))
-        }
+        Who::Agent(number) => match AgentProcess::go_on(group, number, kept) {
+            Some(agent) => Some(Process::Agent(agent)),
+            None => None,
+        },
     }
 }
 
@@ -152,7 +155,8 @@ pub(crate) fn begin<S: Source>(
         (S.failed_calls source.new) }
     ensures no_write { result ≢ Err ProcessFault.Write }
     ensures failed { IfErr result (λ fault. fault ≡ ProcessFault.Read
-        → LacksBeginning kind unread.old.bytes (S.remaining source.old) (S.remaining source.new)) }
+        → BeginsNone kind (prepend_known unread.old.bytes (S.remaining source.old))
+        (S.remaining source.new)) }
 {
     let preamble = read_preamble(alloc, kind, unread, source)?;
     match read_stored(alloc, &preamble.own, preamble.line, unread, source) {

@@ -46,8 +46,12 @@ fn is_kind_of(kind: ProcessKind, who: Who) -> bool
 fn whole_line(alloc: Global, text: &[u8]) -> Result<Vec<u8>, AllocError>
     ensures { IfOk result (λ whole. whole.items ≡ line text.now) }
 {
-    let mut whole = Vec::from_slice(alloc, text)?;
-    whole.extend_from_slice(b"\n")?;
+    let Ok(mut whole) = Vec::from_slice(alloc, text) else {
+        return Err(AllocError);
+    };
+    let Ok(()) = whole.extend_from_slice(b"\n") else {
+        return Err(AllocError);
+    };
     Ok(whole)
 }
 
@@ -105,13 +109,20 @@ fn read_own<'a>(
     ensures refused { IfErr result
         (λ fault. fault ≢ ScheduleFault.OutOfMemory → own_of kind unread.now ≡ Err fault) }
 {
-    let (text, rest) = unread.first_line(ScheduleCode::Nodes)?;
-    let own = log_of_line(alloc, text)?;
-    if is_kind_of(kind, own.head().who()) {
-        Ok((own, rest))
-    } else {
-        drop_log(own);
-        Err(other_head())
+    let (text, rest) = match unread.first_line(ScheduleCode::Nodes) {
+        Ok(found) => found,
+        Err(fault) => return Err(fault),
+    };
+    match log_of_line(alloc, text) {
+        Ok(own) => {
+            if is_kind_of(kind, own.head().who()) {
+                Ok((own, rest))
+            } else {
+                drop_log(own);
+                Err(other_head())
+            }
+        }
+        Err(fault) => Err(fault),
     }
 }
 
@@ -125,7 +136,10 @@ pub(crate) fn read_head<'a>(
     ensures refused { IfErr result
         (λ fault. fault ≢ ScheduleFault.OutOfMemory → head_of kind unread.now ≡ Err fault) }
 {
-    let (first, below) = unread.first_line(ScheduleCode::Head)?;
+    let (first, below) = match unread.first_line(ScheduleCode::Head) {
+        Ok(found) => found,
+        Err(fault) => return Err(fault),
+    };
     if !is_same(first, first_word(kind)) {
         return Err(ScheduleFault::Refused {
             code: ScheduleCode::Head,

@@ -10,7 +10,7 @@ ghost use Rattle.process_player.specs.Starts.{preamble_in};
 ghost use Rattle.process_player.specs.Inner.Calls.{Reads, StopsReading};
 ghost use Rattle.process_player.specs.Inner.Fronts.{AreHeadsTo, IsPreambleShort, IsPreambleTo, IsSectionShort, IsSectionTo, end_of};
 ghost use Rattle.process_player.specs.Inner.SheetAndIssuer.{sheet_and_issuer_in};
-ghost use Rattle.process_player.specs.Inner.Reading.{HasRead, LacksPreamble};
+ghost use Rattle.process_player.specs.Inner.Reading.{HasRead, FallsShort};
 ghost use Rattle.process_player.specs.Inner.Refusing.{OfAll, RejectsPreamble};
 
 use crate::faults::{ProcessFault, fault_of_section};
@@ -38,13 +38,7 @@ pub(crate) struct Preamble {
     pub(crate) line: u32,
 }
 
-/// Drops a sheet beside no other value, for the prover's time alone (docs/DECISIONS.md).
-pub(crate) fn drop_sheet(_sheet: Sheet) {}
-
-/// Drops an issuer beside no other value, as a sheet.
-pub(crate) fn drop_issuer(_issuer: Issuer) {}
-
-/// Drops a preamble, part by part.
+/// Drops a preamble, part by part, for the prover's time alone (docs/DECISIONS.md).
 pub(crate) fn drop_preamble(preamble: Preamble) {
     let Preamble {
         own,
@@ -53,8 +47,8 @@ pub(crate) fn drop_preamble(preamble: Preamble) {
         ..
     } = preamble;
     drop_log(own);
-    drop_sheet(sheet);
-    drop_issuer(issuer);
+    drop(sheet);
+    drop(issuer);
 }
 
 /// What is judged of what is ahead, from its beginning to that place.
@@ -90,7 +84,8 @@ fn read_sheet_and_issuer(
     match read_issuer(alloc, &below) {
         Ok((issuer, rest)) => Ok((sheet, issuer, rest.line())),
         Err(fault) => {
-            drop_sheet(sheet);
+            // Dropped by a call for the prover's time alone (docs/DECISIONS.md).
+            drop(sheet);
             Err(fault)
         }
     }
@@ -248,7 +243,7 @@ pub(crate) fn read_preamble<S: Source>(
         (S.failed_calls source.new) }
     ensures no_write { result ≢ Err ProcessFault.Write }
     ensures failed { IfErr result (λ fault. fault ≡ ProcessFault.Read
-        → LacksPreamble unread.old.bytes unread.new.bytes
+        → FallsShort IsPreambleShort unread.old.bytes unread.new.bytes
         (S.remaining source.old) (S.remaining source.new)) }
 {
     unread.mark();

@@ -5,7 +5,7 @@ ghost use Rattle.process_player.specs.declared.faults.ProcessFault.{ProcessFault
 ghost use Rattle.metering_model.specs.Limits.{most_transcript_bytes};
 ghost use Rattle.log_text.specs.LogText.{IsLogHead, log_in, most_kept_lines, section_in};
 ghost use Rattle.process_player.specs.Inner.Calls.{Reads};
-ghost use Rattle.process_player.specs.Inner.Reading.{HasTaken, LacksStored};
+ghost use Rattle.process_player.specs.Inner.Reading.{AreStoredShort, HasTaken, FallsShort};
 ghost use Rattle.process_player.specs.Inner.Refusing.{OfAll, RejectsLog, RejectsStored};
 
 use crate::faults::{ProcessFault, refused_at};
@@ -24,7 +24,12 @@ const MOST_LINES: u64 = 4_294_967_295;
 fn log_lines(line: &[u8]) -> Option<u64>
     ensures { result ≡ section_in (codes "log ") most_kept_lines line.now }
 {
-    let lines = whole_up_to(behind_word(line, b"log ")?, MOST_LINES)?;
+    let Some(number) = behind_word(line, b"log ") else {
+        return None;
+    };
+    let Some(lines) = whole_up_to(number, MOST_LINES) else {
+        return None;
+    };
     if lines < 1 { None } else { Some(lines) }
 }
 
@@ -67,7 +72,7 @@ pub(crate) fn read_stored<S: Source>(
         (S.failed_calls source.new) }
     ensures no_write { result ≢ Err ProcessFault.Write }
     ensures failed { IfErr result (λ fault. fault ≡ ProcessFault.Read
-        → LacksStored line unread.old.bytes unread.new.bytes
+        → FallsShort (AreStoredShort line) unread.old.bytes unread.new.bytes
         (S.remaining source.old) (S.remaining source.new)) }
 {
     unread.mark();

@@ -18,7 +18,6 @@ use Rattle.process_player.specs.declared.heads.ProcessKind.{ProcessKind}
 use Rattle.process_player.specs.Starts.{Begins, IsStored, preamble_in}
 use Rattle.process_player.specs.Refusals.{stored_lines}
 use Rattle.process_player.specs.Runs.{Asked, Does, IsAsked, Serves, bytes_of}
-use Rattle.process_player.specs.Inner.Fronts.{IsPreambleShort}
 
 -- More bytes came, and of these and those before them some were taken: the rest is ahead.
 pub record Passes (ahead rest : List ℕ) (left left' : Option (List ℕ)) (taken : List ℕ) : Type 0 where
@@ -120,22 +119,11 @@ pub record HasBegun (k : ProcessKind) (p : Process) (ahead rest : List ℕ) (lef
   pub passes : Passes ahead rest left left' text
   pub at_hand : length rest < 65_536
 
--- More came, and nothing of it was taken: no preamble is ahead.
-pub record LacksPreamble (ahead rest : List ℕ) (left left' : Option (List ℕ)) : Type 0 where
+-- More came, and nothing of it was taken: what is ahead falls short.
+pub record FallsShort (is_short : List ℕ → Type 0) (ahead rest : List ℕ) (left left' : Option (List ℕ)) : Type 0 where
   pub passes : Passes ahead rest left left' []
-  pub short : IsPreambleShort rest
+  pub short : is_short rest
 
 -- Fewer lines are ahead than tell what was stored, the first of which has that number.
 abbrev pub AreStoredShort : (next : ℕ) → List ℕ → Type 0
 AreStoredShort next rest = stored_lines next (lines_in rest).lines ≡ Err (Refused code.Lines next)
-
--- More came, and nothing of it was taken: what was stored is not all ahead.
-pub record LacksStored (next : ℕ) (ahead rest : List ℕ) (left left' : Option (List ℕ)) : Type 0 where
-  pub passes : Passes ahead rest left left' []
-  pub short : AreStoredShort next rest
-
--- More came, and no front of it and of what was ahead begins a process.
-pub record LacksBeginning (k : ProcessKind) (ahead : List ℕ) (left left' : Option (List ℕ)) : Type 0 where
-  pub came : List ℕ
-  pub consumed : Consumes left left' came
-  pub none : (text more : List ℕ) (p : Process) → Begins k text p → ahead ++ came ≢ text ++ more

@@ -1,9 +1,9 @@
-use Rattle.std.proofs.Common.{rules, refl, ap}
+use Rattle.std.proofs.Common.{◌∙◌, ◌≤◌, Err, refl, sym, ap, subst}
 use Rattle.std.proofs.lemmas.Result.{err_from_is_err_and}
 use Rattle.process_player.proofs.Commands.{serves_it, stops_in_it}
 use Rattle.process_player.proofs.CommandTexts.{some_found}
-use Rattle.process_player.proofs.Failing.{handed, memory_no_read, never_write, no_answer, ok_no_write, reading_no_write, same_fault}
-use Rattle.process_player.proofs.Stopping.{answer_calls, reading_calls, serving_answer, serving_of}
+use Rattle.process_player.proofs.Failing.{handed, memory_no_read, never_write, no_answer, ok_no_write, one_fault, reading_no_write, same_fault}
+use Rattle.process_player.proofs.Stopping.{answer_calls, answering_calls, reading_calls, serving_answer, serving_of}
 use Rattle.process_player.proofs.serving.serve_one.Goals as goal
 
 pub returns-in_err-answer : goal.returns-in_err-answer
@@ -17,8 +17,9 @@ returns-in_err-answer g c = record {
   });
   torn = λ is. let here = some_found _ _ c.in_ok-end.field-0 (c.in-Some.end, c.in-Some.all) c.in_ok-end.ensures.found c.in-Some.is in
       stops_in_it _ _ c.in-Some.end c.in-Some.all c.ahead-ahead.result.now here c.in_ok-end.ensures.passes c.ahead-ahead.ensures
-      (c.in_err-answer.ensures.torn (search rules));
-  calls = search rules;
+      (c.in_err-answer.ensures.torn (ap Err (one_fault (sym (handed (err_from_is_err_and c.from_residual-in_err-answer.result c.from_residual-in_err-answer.ensures.1)) ∙ is))));
+  calls = answering_calls (Unit {0}) _ c.in_err-answer.field-0.0 (handed (err_from_is_err_and c.from_residual-in_err-answer.result c.from_residual-in_err-answer.ensures.1)) c.in_err-answer.ensures.others c.in_ok-end.ensures.reads
+      c.in_err-answer.ensures.count;
   others = same_fault (handed (err_from_is_err_and c.from_residual-in_err-answer.result c.from_residual-in_err-answer.ensures.1)) _ (serving_answer _ _ c.in_err-answer.field-0.0 c.in_err-answer.ensures.others);
 }
 
@@ -30,7 +31,11 @@ returns g c = record {
   ended = λ is. absurd (cc);
   stopped = tt;
   torn = λ is. absurd (ok_no_write is);
-  calls = search rules;
+  calls = record {
+    within = subst (λ n. n ≤ 4_294_967_296) (sym c.take.ensures.read) c.in_ok-end.ensures.reads.within;
+    reads = c.in_ok-end.ensures.reads.count;
+    writes = c.in_ok-answer.ensures.count;
+  };
   others = tt;
 }
 
