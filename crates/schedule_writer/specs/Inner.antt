@@ -1,5 +1,4 @@
 pub mod Plans
-pub mod Stops
 pub mod Lines
 pub mod Judged
 pub mod Walks
