@@ -1,10 +1,10 @@
--- The line of a batch's fault, and the letter of a kind.
-use Rattle.std.proofs.Common.{◌≡◌, ◌⊎◌, ℕ, zero, suc, ◌+◌, ◌-◌, ◌≤◌, Bool, true, false, ◌&&◌, ◌==◌, cond, List, [], ◌∷◌, length, drop, Option, Some, None, Result, Ok, Err, ok_or, refl, sym, ap, ◌∙◌, subst, arith, inl, inr}
+-- The line of a batch's fault.
+use Rattle.std.proofs.Common.{◌≡◌, ◌⊎◌, ℕ, zero, suc, ◌+◌, ◌-◌, Bool, true, false, ◌&&◌, ◌==◌, cond, List, [], ◌∷◌, length, drop, Option, Some, None, Result, Ok, Err, ok_or, refl, sym, ap, ◌∙◌, subst, arith, inl, inr}
 use Rattle.std.specs.Prelude.{nat_lt}
 use Rattle.std.specs.List.{slice_get}
 use Rattle.std.specs.Option.{option_and_then}
 use Rattle.metering_model.specs.Batch.{is_empty}
-use Rattle.metering_model.specs.BatchReading.{HeadLine, Lines, at_line, batch_below, batch_in, batch_of_lines, fields_in, head_in, kind_in, lines_in, record_in, records_in, version_in, whole_in, with_line}
+use Rattle.metering_model.specs.BatchReading.{HeadLine, Lines, at_line, batch_below, batch_in, batch_of_lines, fields_in, head_in, lines_in, record_in, records_in, version_in, whole_in, with_line}
 use Rattle.metering_model.specs.FirstFailure.{◌>>=◌, holds_or}
 use Rattle.metering_model.specs.declared.Version.{Version}
 use Rattle.metering_model.specs.declared.BatchCode.{BatchCode}
@@ -13,15 +13,6 @@ use Rattle.metering_model.specs.declared.BatchFault.{BatchFault}
 use Rattle.fault_lines.specs.declared.fields.RecordField.{RecordField}
 use Rattle.fault_lines.specs.Fields.{IsFaultOf, fault_field, field_of, is_of_field, line_at, line_rules}
 use Rattle.fault_lines.proofs.FieldLaws.{found, line_follows}
-
-not_both : (b : Bool) → (b && false) ≡ false
-not_both true = refl
-not_both false = refl
-
-pub long_letter : (t : List ℕ) → 2 ≤ length t → kind_in t ≡ None
-long_letter [] h = absurd (omega arith)
-long_letter (c ∷ []) h = absurd (omega arith)
-long_letter (c ∷ d ∷ ds) h = simp not_both
 
 -- ---- a line of a text
 

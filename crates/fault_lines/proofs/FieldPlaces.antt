@@ -9,6 +9,7 @@ use Rattle.metering_model.specs.BatchReading.{fields_in, is_same, kind_in, recor
 use Rattle.metering_model.specs.Dates.{stamp_in}
 use Rattle.metering_model.specs.NumberText.{value_in}
 use Rattle.metering_model.specs.declared.Kind.{Kind}
+use Rattle.metering_model.specs.declared.Kind.TheVariants.{Usage, Purchase, Credit, Tax, Adjustment}
 use Rattle.metering_model.specs.declared.Version.{Version}
 use Rattle.metering_model.specs.declared.BatchCode.{BatchCode}
 use Rattle.metering_model.specs.declared.BatchCode.TheVariants.{Fields, Time, Number, Text, Tags}
@@ -16,7 +17,7 @@ use Rattle.fault_lines.specs.declared.fields.ReadingFields.{ReadingFields}
 use Rattle.fault_lines.specs.declared.fields.RecordField.{RecordField}
 use Rattle.fault_lines.specs.declared.fields.RecordField.TheVariants as field
 use Rattle.fault_lines.specs.Fields.{comes_later, fault_field, first_not_met, is_fit_value, line_rules, reading_rules}
-use Rattle.fault_lines.specs.Inner.LineFields.{AreFieldsOf, number_field, text_field, time_field}
+use Rattle.fault_lines.specs.Inner.LineFields.{AreFieldsOf, is_priced_letter, number_field, text_field, time_field}
 use Rattle.fault_lines.proofs.FieldLaws.{Rules, line_follows, result_of}
 
 abbrev regions : List (List ℕ) → Rules
@@ -114,6 +115,24 @@ module _ (ts : List (List ℕ)) where
 
 -- ---- of a line with these fields
 
+abbrev priced_of : Option Kind → Bool
+priced_of (Some k) = is_priced k
+priced_of None = false
+
+-- the letters that price a reading
+priced_letter : (letter : List ℕ) (k : Kind) → kind_in letter ≡ Some k → is_priced_letter letter ≡ is_priced k
+priced_letter letter k of =
+    by_tests (is_same letter (codes "U")) (is_same letter (codes "P")) (is_same letter (codes "C")) (is_same letter (codes "T")) (is_same letter (codes "A")) of
+  where
+    by_tests : (u p c t a : Bool)
+        → cond u (Some Usage) (cond p (Some Purchase) (cond c (Some Credit) (cond t (Some Tax) (cond a (Some Adjustment) None)))) ≡ Some k → (u || p) ≡ is_priced k
+    by_tests true p c t a so = ap priced_of so
+    by_tests false true c t a so = ap priced_of so
+    by_tests false false true t a so = ap priced_of so
+    by_tests false false false true a so = ap priced_of so
+    by_tests false false false false true so = ap priced_of so
+    by_tests false false false false false so = absurd (cc)
+
 abbrev line_of_fields : ReadingFields → List ℕ → List ℕ → List (List ℕ) → List (List ℕ)
 line_of_fields f end value more = f.letter.now ∷ f.start.now ∷ end ∷ f.account.now ∷ f.resource.now ∷ f.key.now ∷ value ∷ f.commitment.now ∷ more
 
@@ -142,8 +161,8 @@ module _ (f : ReadingFields) (end value : List ℕ) where
   text_of : (more : List (List ℕ)) → result_of (line_rules (line_of_fields f end value more)) ≡ Err Text → Some (text_field f) ≡ first_not_met (line_rules (line_of_fields f end value more))
   text_of =
       of_reading Text (text_field f) (λ k tags ts of is.
-      ap (λ (o : Option Kind). Some (text_choice ts (is_text f.account.now) (is_text f.resource.now) (is_text f.key.now && not (is_empty f.key.now))
-      (is_text f.commitment.now && (elim o [ Some k ↦ is_priced k | None ↦ false ] || is_empty f.commitment.now)))) of
+      ap (λ b. Some (text_choice ts (is_text f.account.now) (is_text f.resource.now) (is_text f.key.now && not (is_empty f.key.now))
+      (is_text f.commitment.now && (b || is_empty f.commitment.now)))) (priced_letter f.letter.now k of)
       ∙ text_first ts (is_some (stamp_in f.start.now)) (comes_later (stamp_in f.start.now) (stamp_in end)) (is_text f.account.now) (is_text f.resource.now)
       (is_text f.key.now && not (is_empty f.key.now)) (is_fit_value k (result_ok (value_in value)))
       (is_text f.commitment.now && (is_priced k || is_empty f.commitment.now)) (is_some (tags_in tags)) is)

@@ -1,6 +1,6 @@
 -- The section on a line of an input, and what its reader says of it.
-use Rattle.std.proofs.Common.{◌≡◌, ℕ, ◌-◌, ◌<◌, ◌≤◌, Bool, true, false, cond, List, length, Some, None, Result, Ok, Err, codes, refl, sym, ap, subst, arith, le-leb}
-use Rattle.std.specs.Prelude.{nat_le}
+use Rattle.std.proofs.Common.{◌≡◌, ℕ, ◌-◌, ◌<◌, ◌≤◌, Bool, true, false, cond, List, length, Option, Some, None, Result, Ok, Err, codes, refl, sym, ap, subst, arith, le-leb}
+use Rattle.std.specs.Prelude.{MatchOption, nat_le}
 use Rattle.std.specs.Str.{IsUtf8, is_utf8}
 use Rattle.std.proofs.lemmas.Str.{IsUtf8-from_is_utf8, is_utf8-from_IsUtf8}
 use Rattle.std.proofs.lemmas.Bool.Decides.{nat_tests}
@@ -31,6 +31,13 @@ module _ (code : ScheduleCode) (n : ℕ) (text : List ℕ) where
   pub no_whole : (fault : ScheduleFault) → whole_of text ≡ Err fault → from_line code n text ≡ Err fault
   unfolding from_line
   no_whole fault is = ap (λ r. r >>= λ (u : Unread). holds_or (nat_le (n - 1) (length (lines_left u))) (section.Refused code n) >>= λ _. Ok (section_of (n - 1) u).rest) is
+
+  -- what is left from there on, as it is looked for
+  pub line_found : (u : Unread) (r : Option Unread) → whole_of text ≡ Ok u
+      → MatchOption r (length (lines_left u) < n - 1) (λ v. (n - 1 ≤ length (lines_left u)) × (v ≡ (section_of (n - 1) u).rest))
+      → MatchOption r ((fault : ScheduleFault) × (from_line code n text ≡ Err fault)) (λ v. from_line code n text ≡ Ok v)
+  line_found u (Some v) is found = line_at u v is found.0 found.1
+  line_found u None is few = (section.Refused code n, no_line u is few)
 
   module _ (word : List ℕ) (most : ℕ) where
     pub section_there : (v : Unread) (s : Section) → from_line code n text ≡ Ok v → section_in code word most v ≡ Ok s → section_on code word most n text ≡ Some s.text

@@ -24,10 +24,10 @@ put_behind (Ok x) old one two place word name end p r =
     r ∙ ap (λ t. t ++ (word ++ (name ++ end))) p ∙ all
 put_behind (Err e) old one two place word name end p r = tt
 
--- two pieces, of which a call of a Vec appends the second
-pub put_two : {A E : Type 0} (r : Result A E) (old one two first second : List ℕ) → one ≡ old ++ first → two ≡ cond (is_ok r) (one ++ second) one → OnOk r (two ≡ old ++ (first ++ second))
-put_two (Ok x) old one two first second f s = s ∙ ap (λ t. t ++ second) f ∙ append_assoc old first second
-put_two (Err e) old one two first second f s = tt
+-- a piece that a call of a Vec appends
+pub put_one : {A E : Type 0} (r : Result A E) (old new piece same : List ℕ) → piece ≡ same → new ≡ cond (is_ok r) (old ++ piece) old → OnOk r (new ≡ old ++ same)
+put_one (Ok x) old new piece same is put = put ∙ ap (λ t. old ++ t) is
+put_one (Err e) old new piece same is put = tt
 
 -- three pieces
 pub put_three : {A E : Type 0} (r : Result A E) (old one two three word name end : List ℕ) → one ≡ old ++ word → two ≡ one ++ name → OnOk r (three ≡ two ++ end) → OnOk r (three ≡ old ++ (word ++ (name ++ end)))

@@ -1,6 +1,6 @@
 //! Readings that start long after those of their agent above them.
 
-ghost use Rattle.std.specs.Prelude.{◌≡◌, [], ◌∷◌, ◌++◌, ◌+◌, codes, List, ℤ, Some, None, IfOk, OnOk, take, replicate};
+ghost use Rattle.std.specs.Prelude.{◌≡◌, [], ◌∷◌, ◌++◌, ◌+◌, codes, List, ℤ, Some, None, OnOk, take, replicate};
 ghost use Rattle.std.specs.List.{flat_map, slice_get};
 ghost use Rattle.metering_model.specs.Batch.{Batch, Reading, Reads, Record as ModelRecord};
 ghost use Rattle.batch_view.specs.Asked.{asked_in, record_asked};
@@ -83,66 +83,66 @@ fn put_reading(
     }
 }
 
-/// Appends it where the record at an index does, and answers the latest day with the record: above it, this one is.
+/// Appends it where the record at an index does, and takes the record to the latest day above it.
 #[inline(always)]
 fn put_record(
     told: &mut Vec<u8>,
     lines: usize,
     batch: &BatchView<'_>,
     index: u16,
-    above: Option<i32>,
+    above: &mut Option<i32>,
     asked: &Asked<'_>,
-) -> Result<Option<i32>, AllocError>
+) -> Result<(), AllocError>
     ensures told { (r : ModelRecord) (days : List ℤ)
         → slice_get (batch_of batch.now).records index ≡ Some r
-        → record_asked asked.now ≡ asked_in r → above ≡ latest days
+        → record_asked asked.now ≡ asked_in r → above.old ≡ latest days
         → OnOk result (told.new.items
         ≡ told.old.items ++ told_of_record (lines + 2 + index) days r) }
     ensures latest { (r : ModelRecord) (days : List ℤ) → record_asked asked.now ≡ asked_in r
-        → above ≡ latest days
-        → IfOk result (λ now. now ≡ latest (start_day r ++ days)) }
+        → above.old ≡ latest days
+        → above.new ≡ latest (start_day r ++ days) }
 {
     match asked {
         Asked::Reading(reading) => {
             let day = reading.start.day().number();
-            if is_ahead(above, day) {
-                let Ok(()) = put_reading(told, lines, batch, index) else {
-                    return Err(AllocError);
-                };
+            let before = *above;
+            *above = Some(later(day, before));
+            if is_ahead(before, day) {
+                put_reading(told, lines, batch, index)
+            } else {
+                Ok(())
             }
-            Ok(Some(later(day, above)))
         }
-        Asked::Amend { .. } => Ok(above),
+        Asked::Amend { .. } => Ok(()),
     }
 }
 
-/// Appends a line for each reading of a batch that starts long after those above it, and answers the latest day with the batch:
-/// above it, this one is.
+/// Appends a line for each reading of a batch that starts long after those above it, and takes the batch to the latest day above it.
 fn put_batch(
     told: &mut Vec<u8>,
     lines: usize,
     batch: &BatchView<'_>,
-    above: Option<i32>,
-) -> Result<Option<i32>, AllocError>
-    ensures told { (days : List ℤ) → above ≡ latest days
+    above: &mut Option<i32>,
+) -> Result<(), AllocError>
+    ensures told { (days : List ℤ) → above.old ≡ latest days
         → OnOk result (told.new.items
         ≡ told.old.items ++ ahead_in (lines + 2) days (batch_of batch.now).records) }
-    ensures latest { (days : List ℤ) → above ≡ latest days
-        → IfOk result (λ now. now
+    ensures latest { (days : List ℤ) → above.old ≡ latest days
+        → OnOk result (above.new
         ≡ latest (flat_map start_day (batch_of batch.now).records ++ days)) }
 {
     // For the proof alone: its clause says that a batch has at most 1,000 records.
     let _count = batch.count();
-    let mut latest = above;
+    let mut latest = *above;
     let mut index = 0;
     for asked in batch.asked() {
-        let Ok(now) = put_record(told, lines, batch, index, latest, &asked) else {
+        let Ok(()) = put_record(told, lines, batch, index, &mut latest, &asked) else {
             return Err(AllocError);
         };
-        latest = now;
         index += 1;
     }
-    Ok(latest)
+    *above = latest;
+    Ok(())
 }
 
 /// Agent by agent the latest day on which a reading of the batches journaled so far starts, by its number. It takes no memory but
@@ -196,10 +196,6 @@ impl LatestDays {
             → OnOk result (AreLatest self.new (batch_of batch.now ∷ journaled)) }
     {
         let place = usize::from(batch.agent() - 1);
-        let Ok(latest) = put_batch(told, lines, batch, self.days[place]) else {
-            return Err(AllocError);
-        };
-        self.days[place] = latest;
-        Ok(())
+        put_batch(told, lines, batch, &mut self.days[place])
     }
 }

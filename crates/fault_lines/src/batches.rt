@@ -6,11 +6,9 @@ ghost use Rattle.metering_model.specs.BatchReading.{batch_in};
 ghost use Rattle.metering_model.specs.Transcript.{with_number};
 ghost use Rattle.metering_model.specs.declared.BatchFault.{BatchFault};
 ghost use Rattle.batch_view.specs.Lent.{model_reading, record_of};
-ghost use Rattle.fault_lines.specs.Fields.{field_of};
-ghost use Rattle.fault_lines.specs.TextKinds.{batch_words};
-ghost use Rattle.fault_lines.specs.Told.{field_words, line_within, more_words, record_at, record_words, told_at, told_of_text, words_of};
+ghost use Rattle.fault_lines.specs.Told.{line_within, more_words, record_at, record_words, told_at, told_of_text, words_of};
 
-use crate::fields::{RecordField, field_name, field_of};
+use crate::fields::{field_of, field_words};
 use crate::text_kinds::batch_words;
 use answer_words::{code_word, kept_code_word, refusal_line};
 use batch_view::{BatchView, Reading, Record};
@@ -72,16 +70,6 @@ pub fn put_at(told: &mut Vec<u8>, line: u128, refusal: Refusal) -> Result<(), Al
     put_end(told)
 }
 
-/// Appends the name of a field, where there is one.
-fn put_field(told: &mut Vec<u8>, field: Option<RecordField>) -> Result<(), AllocError>
-    ensures { OnOk result (told.new.items ≡ told.old.items ++ field_words field) }
-{
-    match field {
-        Some(field) => put_both(told, b" ", field_name(field)),
-        None => Ok(()),
-    }
-}
-
 /// Appends what a bad reading lacks: a price on its day, or else the commitment that it names.
 fn put_lacking(told: &mut Vec<u8>, sheet: &Sheet, reading: &Reading<'_>) -> Result<(), AllocError>
     ensures { OnOk result (told.new.items ≡ told.old.items
@@ -129,18 +117,6 @@ fn put_record_at(
     }
 }
 
-/// Appends what is told of a batch's own fault: the field, and what its text or its line is.
-fn put_batch_words(told: &mut Vec<u8>, text: &[u8], fault: BatchFault) -> Result<(), AllocError>
-    requires { batch_in text.now ≡ Err fault }
-    ensures { OnOk result (told.new.items ≡ told.old.items
-        ++ (field_words (field_of text.now fault) ++ batch_words text.now fault)) }
-{
-    let Ok(()) = put_field(told, field_of(text, fault)) else {
-        return Err(AllocError);
-    };
-    told.extend_from_slice(batch_words(text, fault))
-}
-
 /// Appends what is told behind the code of a batch's refusal: of its own fault the field, and what its text or its line is, of a
 /// bad record its words.
 fn put_more(
@@ -156,7 +132,11 @@ fn put_more(
         ≡ told.old.items ++ more_words sheet.now text.now bad refusal) }
 {
     match refusal {
-        Refusal::BadBatch(fault) => put_batch_words(told, text, fault),
+        Refusal::BadBatch(fault) => put_both(
+            told,
+            field_words(field_of(text, fault)),
+            batch_words(text, fault),
+        ),
         Refusal::BadTarget | Refusal::Unpriced => match bad {
             Some(index) => put_record_at(told, sheet, text, index),
             None => Ok(()),

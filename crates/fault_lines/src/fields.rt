@@ -1,18 +1,19 @@
 //! Which field of a record's line is told of a fault.
 
 ghost use Rattle.std.specs.Prelude.{true, ◌≡◌, ◌<◌, ◌∷◌, Some, None, Err, length, MatchOption};
-ghost use Rattle.metering_model.specs.Batch.{is_text, is_text_byte};
-ghost use Rattle.metering_model.specs.BatchReading.{batch_in, fields_in, kind_in, record_in};
+ghost use Rattle.metering_model.specs.Batch.{is_text};
+ghost use Rattle.metering_model.specs.BatchReading.{batch_in, fields_in, record_in};
 ghost use Rattle.metering_model.specs.declared.Version.{Version};
-ghost use Rattle.fault_lines.specs.Fields.{fault_field, field_name, field_of, is_of_field, line_at};
+ghost use Rattle.fault_lines.specs.Fields.{fault_field, field_of, is_of_field, line_at};
+ghost use Rattle.fault_lines.specs.Told.{field_words};
 ghost use Rattle.fault_lines.specs.Inner.LineFields.{AreFieldsOf, is_priced_letter, number_field, text_field, time_field};
 
-use byte_text::{first_line, lines_length, read_whole, split_at_bar};
-use metering_model::{BatchCode, BatchFault, Kind};
+use byte_text::{first_line, is_same, lines_length, read_whole, split_at_bar};
+use metering_model::{BatchCode, BatchFault};
 use utc_calendar::Stamp;
 
 /// A field of a record's line, after its letter.
-#[derive(Clone, Copy, Debug, PartialEq, Eq)]
+#[derive(Clone, Copy)]
 pub enum RecordField {
     Start,
     End,
@@ -27,22 +28,23 @@ pub enum RecordField {
     Index,
 }
 
-/// The name of a field.
-pub(crate) fn field_name(field: RecordField) -> &'static [u8]
-    ensures { result.now ≡ field_name field }
+/// The name of a field behind a space, where there is one.
+pub(crate) fn field_words(field: Option<RecordField>) -> &'static [u8]
+    ensures { result.now ≡ field_words field }
 {
     match field {
-        RecordField::Start => b"start",
-        RecordField::End => b"end",
-        RecordField::Account => b"account",
-        RecordField::Resource => b"resource",
-        RecordField::Key => b"key",
-        RecordField::Value => b"value",
-        RecordField::Commitment => b"commitment",
-        RecordField::Tags => b"tags",
-        RecordField::Region => b"region",
-        RecordField::Sequence => b"sequence",
-        RecordField::Index => b"index",
+        Some(RecordField::Start) => b" start",
+        Some(RecordField::End) => b" end",
+        Some(RecordField::Account) => b" account",
+        Some(RecordField::Resource) => b" resource",
+        Some(RecordField::Key) => b" key",
+        Some(RecordField::Value) => b" value",
+        Some(RecordField::Commitment) => b" commitment",
+        Some(RecordField::Tags) => b" tags",
+        Some(RecordField::Region) => b" region",
+        Some(RecordField::Sequence) => b" sequence",
+        Some(RecordField::Index) => b" index",
+        None => b"",
     }
 }
 
@@ -57,30 +59,28 @@ struct ReadingFields<'a> {
     commitment: &'a [u8],
 }
 
-/// The first two fields of a line, and what stands behind them; None where it has no more.
-fn first_two(line: &[u8]) -> Option<(&[u8], &[u8], &[u8])>
+/// The first two fields of a line, and what stands behind them.
+#[derive(Clone, Copy)]
+struct TwoFields<'a> {
+    first: &'a [u8],
+    second: &'a [u8],
+    rest: &'a [u8],
+}
+
+/// The first two fields of a line; None where nothing stands behind them.
+fn first_two<'a>(line: &'a [u8]) -> Option<TwoFields<'a>>
     ensures { MatchOption result (length (fields_in line.now) < 3)
-        (λ p. fields_in line.now ≡ p.0.now ∷ p.1.now ∷ fields_in p.2.now) }
+        (λ p. fields_in line.now ≡ p.first.now ∷ p.second.now ∷ fields_in p.rest.now) }
 {
     let Some((first, rest)) = split_at_bar(line) else {
         return None;
     };
     match split_at_bar(rest) {
-        Some((second, rest)) => Some((first, second, rest)),
-        None => None,
-    }
-}
-
-/// The first four fields of a line, and what stands behind them; None where it has no more.
-fn first_four(line: &[u8]) -> Option<(&[u8], &[u8], &[u8], &[u8], &[u8])>
-    ensures { MatchOption result (length (fields_in line.now) < 5)
-        (λ p. fields_in line.now ≡ p.0.now ∷ p.1.now ∷ p.2.now ∷ p.3.now ∷ fields_in p.4.now) }
-{
-    let Some((first, second, rest)) = first_two(line) else {
-        return None;
-    };
-    match first_two(rest) {
-        Some((third, fourth, rest)) => Some((first, second, third, fourth, rest)),
+        Some((second, rest)) => Some(TwoFields {
+            first,
+            second,
+            rest,
+        }),
         None => None,
     }
 }
@@ -89,63 +89,45 @@ fn first_four(line: &[u8]) -> Option<(&[u8], &[u8], &[u8], &[u8], &[u8])>
 fn reading_fields<'a>(line: &'a [u8]) -> Option<ReadingFields<'a>>
     ensures { MatchOption result (length (fields_in line.now) < 9) (AreFieldsOf line.now) }
 {
-    let Some((letter, start, _, account, rest)) = first_four(line) else {
+    let Some(front) = first_two(line) else {
         return None;
     };
-    let Some((resource, key, _, commitment, _)) = first_four(rest) else {
+    let Some(owner) = first_two(front.rest) else {
         return None;
     };
-    Some(ReadingFields {
-        letter,
-        start,
-        account,
-        resource,
-        key,
-        commitment,
-    })
+    let Some(charged) = first_two(owner.rest) else {
+        return None;
+    };
+    match first_two(charged.rest) {
+        Some(valued) => Some(ReadingFields {
+            letter: front.first,
+            start: front.second,
+            account: owner.second,
+            resource: charged.first,
+            key: charged.second,
+            commitment: valued.second,
+        }),
+        None => None,
+    }
 }
 
-/// Whether a byte is printable ASCII.
-fn is_text_byte(byte: u8) -> bool
-    ensures { result ≡ is_text_byte byte }
-{
-    byte >= 0x20 && byte <= 0x7E
-}
-
-/// Whether each byte is.
+/// Whether each byte is printable ASCII.
 fn is_text(text: &[u8]) -> bool
     ensures { result ≡ is_text text.now }
 {
     for byte in text {
-        if !is_text_byte(*byte) {
+        if *byte < 0x20 || *byte > 0x7E {
             return false;
         }
     }
     true
 }
 
-/// The kind of readings of this letter.
-fn kind_of(letter: &[u8]) -> Option<Kind>
-    ensures { result ≡ kind_in letter.now }
-{
-    match letter {
-        [b'U'] => Some(Kind::Usage),
-        [b'P'] => Some(Kind::Purchase),
-        [b'C'] => Some(Kind::Credit),
-        [b'T'] => Some(Kind::Tax),
-        [b'A'] => Some(Kind::Adjustment),
-        _ => None,
-    }
-}
-
-/// Whether a price charges readings of this letter.
+/// Whether a price charges readings of this letter: usage and purchases.
 fn is_priced_letter(letter: &[u8]) -> bool
     ensures { result ≡ is_priced_letter letter.now }
 {
-    match kind_of(letter) {
-        Some(Kind::Usage | Kind::Purchase) => true,
-        Some(Kind::Credit | Kind::Tax | Kind::Adjustment) | None => false,
-    }
+    is_same(letter, b"U") || is_same(letter, b"P")
 }
 
 /// Which moment is at fault, where one is.
@@ -197,11 +179,11 @@ fn amendment_field(line: &[u8]) -> Option<RecordField>
     ensures { (version : Version) → record_in version (fields_in line.now) ≡ Err BatchCode.Number
         → result ≡ fault_field line.now }
 {
-    let Some((_, seq, rest)) = first_two(line) else {
+    let Some(front) = first_two(line) else {
         return None;
     };
-    match split_at_bar(rest) {
-        Some((index, _)) => Some(number_field(seq, index)),
+    match split_at_bar(front.rest) {
+        Some((index, _)) => Some(number_field(front.second, index)),
         None => None,
     }
 }

@@ -3,7 +3,7 @@
 ghost use Rattle.std.specs.Prelude.{◌≡◌, ◌≤◌, [], not, ◌+◌, ◌++◌, length, IfOk, OnOk, map, filter};
 ghost use Rattle.std.specs.List.{flat_map, position_or_len};
 ghost use Rattle.metering_model.specs.BatchReading.{lines_in};
-ghost use Rattle.fault_lines.specs.UnknownKeys.{first_word, from_first, has_key, is_key, keys_left, opens_table, shown, table_below, table_of, told_along, told_of_keys, told_unknown};
+ghost use Rattle.fault_lines.specs.UnknownKeys.{first_word, from_first, has_key, is_key, keys_left, shown, table_below, table_of, told_along, told_of_keys, told_unknown};
 ghost use Rattle.fault_lines.specs.Inner.KeyKinds.{is_of_kind};
 
 use crate::batches::{put_end, put_place};
@@ -84,22 +84,28 @@ fn first_word(line: &[u8]) -> &[u8]
     &behind[..count_in_front(ByteKind::OfKey, behind)]
 }
 
-/// Whether `[` comes first in a line, behind blanks.
-fn opens_table(line: &[u8]) -> bool
-    ensures { result ≡ opens_table line.now }
-{
-    begins_with(behind_those(ByteKind::Blanks, line), b"[")
+/// The table in which the first word of a line is a key, and the one that is open below the line.
+#[derive(Clone, Copy)]
+struct LineTables<'a> {
+    at: &'a [u8],
+    below: &'a [u8],
 }
 
-/// The table in which the first word of a line is a key, and the one that is open below the line.
-fn tables_at<'a>(table: &'a [u8], line: &'a [u8]) -> (&'a [u8], &'a [u8])
-    ensures at { result.0.now ≡ table_of table.now line.now }
-    ensures below { result.1.now ≡ table_below table.now line.now }
+/// These tables of a line. One that opens a table has `[` first, behind blanks.
+fn tables_at<'a>(table: &'a [u8], line: &'a [u8]) -> LineTables<'a>
+    ensures at { result.at.now ≡ table_of table.now line.now }
+    ensures below { result.below.now ≡ table_below table.now line.now }
 {
-    if opens_table(line) {
-        (b"", first_word(line))
+    if begins_with(behind_those(ByteKind::Blanks, line), b"[") {
+        LineTables {
+            at: b"",
+            below: first_word(line),
+        }
     } else {
-        (table, table)
+        LineTables {
+            at: table,
+            below: table,
+        }
     }
 }
 
@@ -151,55 +157,56 @@ fn put_each(told: &mut Vec<u8>, line: u128, keys: &[UnknownKey<'_>]) -> Result<(
     Ok(())
 }
 
-/// Appends it of those keys that are of that table and name.
+/// Appends it of those keys that are of that table and name, and leaves the others.
 fn put_those(
     told: &mut Vec<u8>,
     line: u128,
     table: &[u8],
     name: &[u8],
-    keys: &[UnknownKey<'_>],
+    keys: &mut Vec<UnknownKey<'_>>,
 ) -> Result<(), AllocError>
-    ensures { OnOk result (told.new.items ≡ told.old.items
-        ++ flat_map (told_unknown line) (filter (is_key table.now name.now) keys.now)) }
+    ensures told { OnOk result (told.new.items ≡ told.old.items
+        ++ flat_map (told_unknown line) (filter (is_key table.now name.now) keys.old.items)) }
+    ensures left { OnOk result
+        (keys.new.items ≡ filter (λ k. not (is_key table.now name.now k)) keys.old.items) }
 {
-    for key in keys {
-        if is_key(table, name, key) {
-            let Ok(()) = put_unknown(told, line, key) else {
+    let mut index = 0;
+    while index < keys.len() {
+        if is_key(table, name, &keys[index]) {
+            let key = keys.remove(index);
+            let Ok(()) = put_unknown(told, line, &key) else {
                 return Err(AllocError);
             };
+        } else {
+            index += 1;
         }
     }
     Ok(())
 }
 
-/// Leaves those keys that are not of that table and name.
-fn drop_those(keys: &mut Vec<UnknownKey<'_>>, table: &[u8], name: &[u8])
-    ensures { keys.new.items ≡ filter (λ k. not (is_key table.now name.now k)) keys.old.items }
-{
-    keys.retain(|key| !is_key(table, name, key));
-}
-
-/// Appends those of the keys that a line has, and leaves the others. It answers the table that is open below the line.
+/// Appends those of the keys that the line at an index of a section has, which opens on a line, and leaves the others. It answers the
+/// table that is open below the line.
 fn put_on_line<'a>(
     told: &mut Vec<u8>,
-    number: u128,
+    opening: u32,
+    index: usize,
     table: &'a [u8],
     line: &'a [u8],
     keys: &mut Vec<UnknownKey<'_>>,
 ) -> Result<&'a [u8], AllocError>
     ensures told { OnOk result (told.new.items ≡ told.old.items
-        ++ flat_map (told_unknown number) (filter (has_key table.now line.now) keys.old.items)) }
+        ++ flat_map (told_unknown (opening + 1 + index))
+        (filter (has_key table.now line.now) keys.old.items)) }
     ensures left { OnOk result
         (keys.new.items ≡ filter (λ k. not (has_key table.now line.now k)) keys.old.items) }
     ensures below { IfOk result (λ below. below.now ≡ table_below table.now line.now) }
 {
-    let (here, below) = tables_at(table, line);
-    let word = first_word(line);
-    let Ok(()) = put_those(told, number, here, word, keys) else {
+    let tables = tables_at(table, line);
+    let number = u128::from(opening) + 1 + index as u128;
+    let Ok(()) = put_those(told, number, tables.at, first_word(line), keys) else {
         return Err(AllocError);
     };
-    drop_those(keys, here, word);
-    Ok(below)
+    Ok(tables.below)
 }
 
 /// Appends each of the keys at the first line that has it, and leaves those that no line has. The section opens on that line.
@@ -220,8 +227,7 @@ fn put_along(
         let Some((line, behind)) = first_line(rest) else {
             return Ok(());
         };
-        let number = u128::from(opening) + 1 + index as u128;
-        let Ok(below) = put_on_line(told, number, table, line, keys) else {
+        let Ok(below) = put_on_line(told, opening, index, table, line, keys) else {
             return Err(AllocError);
         };
         table = below;

@@ -1,10 +1,10 @@
 //! The fault of a section, and what its reader says of it.
 
-ghost use Rattle.std.specs.Prelude.{◌≡◌, ◌≢◌, ◌≤◌, ◌++◌, codes, None, Some, MatchOption, OnOk};
+ghost use Rattle.std.specs.Prelude.{◌≡◌, ◌≢◌, ◌≤◌, ◌++◌, codes, None, Some, Ok, Err, MatchOption, OnOk};
 ghost use Rattle.price_sheet.specs.SheetReading.{sheet_of_text};
 ghost use Rattle.sheet_text.specs.IssuerReading.{issuer_of_text};
 ghost use Rattle.answer_words.specs.Words.{issuer_fault_text, sheet_fault_text};
-ghost use Rattle.fault_lines.specs.Told.{reason, said_by, said_of_fault, said_of_text, section_on};
+ghost use Rattle.fault_lines.specs.Told.{from_line, reason, said_by, said_of_fault, section_on};
 
 use crate::batches::{put_end, put_place};
 use crate::text_kinds::{kind_words, opening_words};
@@ -13,6 +13,18 @@ use input_sections::{ScheduleCode, ScheduleFault, Unread, read_section};
 use price_sheet::Sheet;
 use sheet_text::{Issuer, IssuerFault, SheetFault};
 use std::alloc::{AllocError, Global};
+
+/// What is left of a text from a line on, counted from 1; None where the text has fewer lines, or is too long.
+pub(crate) fn from_line<'a>(text: &'a [u8], line: u32) -> Option<Unread<'a>>
+    ensures { (code : ScheduleCode) → MatchOption result
+        ((fault : ScheduleFault) × (from_line code line text.now ≡ Err fault))
+        (λ unread. from_line code line text.now ≡ Ok unread) }
+{
+    match Unread::whole(text) {
+        Ok(whole) => whole.behind_lines(line.saturating_sub(1)),
+        Err(_) => None,
+    }
+}
 
 /// The text of the section that opens on a line, counted from 1. No memory is taken.
 fn section_on<'a>(
@@ -26,23 +38,13 @@ fn section_on<'a>(
     ensures { MatchOption result (section_on code word.now most line text.now ≡ None)
         (λ found. section_on code word.now most line text.now ≡ Some found.now) }
 {
-    let Ok(whole) = Unread::whole(text) else {
-        return None;
-    };
-    let Some(unread) = whole.behind_lines(line.saturating_sub(1)) else {
+    let Some(unread) = from_line(text, line) else {
         return None;
     };
     match read_section(&unread, code, word, most) {
         Ok(section) => Some(section.text),
         Err(_) => None,
     }
-}
-
-/// Appends that a section is no text.
-fn put_not_text(told: &mut Vec<u8>) -> Result<(), AllocError>
-    ensures { OnOk result (told.new.items ≡ told.old.items ++ codes " not UTF-8") }
-{
-    told.extend_from_slice(b" not UTF-8")
 }
 
 /// Appends why a text is no sheet, behind a space.
@@ -74,14 +76,22 @@ fn put_sheet_answer(alloc: Global, told: &mut Vec<u8>, text: &str) -> Result<(),
     }
 }
 
-/// Appends what is wrong with the text of a sheet.
-fn put_sheet_reason(alloc: Global, told: &mut Vec<u8>, section: &[u8]) -> Result<(), AllocError>
+/// Appends what is wrong with the section of a sheet on a line, or what that line is where it opens none.
+fn put_sheet_reason(
+    alloc: Global,
+    told: &mut Vec<u8>,
+    text: &[u8],
+    line: u32,
+) -> Result<(), AllocError>
     ensures { OnOk result (told.new.items
-        ≡ told.old.items ++ said_of_text sheet_fault_text sheet_of_text section.now) }
+        ≡ told.old.items ++ reason text.now ScheduleCode.Sheet line) }
 {
+    let Some(section) = section_on(text, ScheduleCode::Sheet, b"sheet ", 200_000, line) else {
+        return told.extend_from_slice(opening_words(text, line));
+    };
     match str::from_utf8(section) {
-        Ok(text) => put_sheet_answer(alloc, told, text),
-        Err(_) => put_not_text(told),
+        Ok(toml) => put_sheet_answer(alloc, told, toml),
+        Err(_) => told.extend_from_slice(b" not UTF-8"),
     }
 }
 
@@ -114,14 +124,22 @@ fn put_issuer_answer(alloc: Global, told: &mut Vec<u8>, text: &str) -> Result<()
     }
 }
 
-/// Appends what is wrong with the text of an issuer.
-fn put_issuer_reason(alloc: Global, told: &mut Vec<u8>, section: &[u8]) -> Result<(), AllocError>
-    ensures { OnOk result (told.new.items ≡ told.old.items
-        ++ said_of_text issuer_fault_text issuer_of_text section.now) }
+/// Appends what is wrong with the section of an issuer on a line, or what that line is where it opens none.
+fn put_issuer_reason(
+    alloc: Global,
+    told: &mut Vec<u8>,
+    text: &[u8],
+    line: u32,
+) -> Result<(), AllocError>
+    ensures { OnOk result (told.new.items
+        ≡ told.old.items ++ reason text.now ScheduleCode.Issuer line) }
 {
+    let Some(section) = section_on(text, ScheduleCode::Issuer, b"issuer ", 100, line) else {
+        return told.extend_from_slice(opening_words(text, line));
+    };
     match str::from_utf8(section) {
-        Ok(text) => put_issuer_answer(alloc, told, text),
-        Err(_) => put_not_text(told),
+        Ok(toml) => put_issuer_answer(alloc, told, toml),
+        Err(_) => told.extend_from_slice(b" not UTF-8"),
     }
 }
 
@@ -137,14 +155,8 @@ fn put_reason(
     ensures { OnOk result (told.new.items ≡ told.old.items ++ reason text.now code line) }
 {
     match code {
-        ScheduleCode::Sheet => match section_on(text, code, b"sheet ", 200_000, line) {
-            Some(section) => put_sheet_reason(alloc, told, section),
-            None => told.extend_from_slice(opening_words(text, line)),
-        },
-        ScheduleCode::Issuer => match section_on(text, code, b"issuer ", 100, line) {
-            Some(section) => put_issuer_reason(alloc, told, section),
-            None => told.extend_from_slice(opening_words(text, line)),
-        },
+        ScheduleCode::Sheet => put_sheet_reason(alloc, told, text, line),
+        ScheduleCode::Issuer => put_issuer_reason(alloc, told, text, line),
         ScheduleCode::Head => told.extend_from_slice(kind_words(text)),
         _ => Ok(()),
     }

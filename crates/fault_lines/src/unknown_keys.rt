@@ -9,6 +9,7 @@ ghost use Rattle.fault_lines.specs.UnknownKeys.{is_key, is_taken, told_of_keys, 
 ghost use Rattle.fault_lines.specs.Inner.KeyKinds.{unknown_of};
 
 use crate::key_lines::{UnknownKey, is_key, put_keys};
+use crate::sections::from_line;
 use byte_text::is_same;
 use input_sections::{ScheduleCode, Section, Unread, read_section};
 use sheet_text::{Key, KeyFault, rows_under};
@@ -301,10 +302,7 @@ pub fn put_unknown_on(
 ) -> Result<(), AllocError>
     ensures { OnOk result (warned.new.items ≡ warned.old.items ++ unknown_on line text.now) }
 {
-    let Ok(whole) = Unread::whole(text) else {
-        return Ok(());
-    };
-    match whole.behind_lines(line.saturating_sub(1)) {
+    match from_line(text, line) {
         Some(unread) => put_unknown_keys(alloc, warned, &unread),
         None => Ok(()),
     }

@@ -1,9 +1,9 @@
 -- The field of a line, found by the code of its fault.
-use Rattle.std.specs.Prelude.{◌≡◌, ℕ, Bool, false, not, ◌&&◌, ◌||◌, if◌then◌else◌, List, ◌∷◌, Some, None}
+use Rattle.std.specs.Prelude.{◌≡◌, ℕ, Bool, not, ◌&&◌, ◌||◌, if◌then◌else◌, List, ◌∷◌, codes}
 use Rattle.std.specs.Option.{is_some}
 use Rattle.metering_model.specs.Limits.{last_index, last_sequence}
-use Rattle.metering_model.specs.Batch.{is_empty, is_priced, is_text}
-use Rattle.metering_model.specs.BatchReading.{fields_in, kind_in, whole_in}
+use Rattle.metering_model.specs.Batch.{is_empty, is_text}
+use Rattle.metering_model.specs.BatchReading.{fields_in, is_same, whole_in}
 use Rattle.metering_model.specs.Dates.{stamp_in}
 use Rattle.fault_lines.specs.declared.fields.ReadingFields.{ReadingFields}
 use Rattle.fault_lines.specs.declared.fields.RecordField.{RecordField}
@@ -16,8 +16,9 @@ pub record AreFieldsOf (line : List ℕ) (f : ReadingFields) : Type 0 where
   pub rest : List ℕ
   pub are : fields_in line ≡ f.letter.now ∷ f.start.now ∷ end ∷ f.account.now ∷ f.resource.now ∷ f.key.now ∷ value ∷ f.commitment.now ∷ fields_in rest
 
+-- usage and purchases
 abbrev pub is_priced_letter : List ℕ → Bool
-is_priced_letter letter = elim (kind_in letter) [ Some k ↦ is_priced k | None ↦ false ]
+is_priced_letter letter = is_same letter (codes "U") || is_same letter (codes "P")
 
 -- where a moment is at fault: the start where that is none
 abbrev pub time_field : ReadingFields → RecordField

@@ -13,7 +13,7 @@ loop-asked-init c =
       is_finite = tt;
       bytes = ap (λ t. t.bytes) at;
       index = ap (λ t. t.index) at;
-      walked = λ days is. walk_begins c.args.lines days c.args.told.now.items c.args.told.now.items c.args.told.now.items (batch_of c.args.batch.now).records 0 c.args.above c.args.above is;
+      walked = λ days is. walk_begins c.args.lines days c.args.told.now.items c.args.told.now.items c.args.told.now.items (batch_of c.args.batch.now).records 0 c.args.above.now c.args.above.now is;
     }
 
 pub overflow_add-index : goal.overflow_add-index
@@ -40,9 +40,9 @@ loop-asked-preserved c =
       index = ap (λ (t : RecordsLeft). t.index) walk ∙ ap (λ n. n + 1) l.index;
       walked = λ days is.
           let w = subst (λ left. IsWalked c.args.lines days c.args.told.now.items c.loop-asked.told.items rs left c.loop-asked.index c.loop-asked.latest) next.rest (l.walked days is) in
-          walk_goes_on c.args.lines days c.args.told.now.items c.loop-asked.told.items c.put_record.new.told.items rs c.loop-asked.index c.loop-asked.latest c.in-Ok.now
+          walk_goes_on c.args.lines days c.args.told.now.items c.loop-asked.told.items c.put_record.new.told.items rs c.loop-asked.index c.loop-asked.latest c.put_record.new.above
           next.r (drop (c.loop-asked.index + 1) rs) w
-          (c.in-Ok.ensures.told next.r w.seen next.there next.asked w.is_latest) (c.in-Ok.ensures.latest next.r w.seen next.asked w.is_latest);
+          (c.in-Ok.ensures.told next.r w.seen next.there next.asked w.is_latest) (c.put_record.ensures.latest next.r w.seen next.asked w.is_latest);
     }
 
 pub returns : goal.returns
@@ -52,7 +52,7 @@ returns c =
     let same : asked_left c.loop-asked.asked-iterator ≡ map asked_in (drop c.loop-asked.index rs) =
     ap (λ b. map asked_in (drop c.loop-asked.asked-iterator.index (batch_of b).records)) l.bytes ∙ ap (λ n. map asked_in (drop n rs)) l.index in
     let none = none_asked rs c.loop-asked.index (sym same ∙ c.in-None.ensures.steps.first.0) in
-    let walked = λ (days : List ℤ) (is : c.args.above ≡ latest days).
+    let walked = λ (days : List ℤ) (is : c.args.above.now ≡ latest days).
     subst (λ left. IsWalked c.args.lines days c.args.told.now.items c.loop-asked.told.items rs left c.loop-asked.index c.loop-asked.latest) none (l.walked days is) in
     record {
       told = λ days is.

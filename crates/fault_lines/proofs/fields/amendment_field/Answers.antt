@@ -14,8 +14,8 @@ returns-in-None c = λ version is.
 
 pub returns-in-Some-split_at_bar : goal.returns-in-Some-split_at_bar
 returns-in-Some-split_at_bar c = λ version is.
-    let letter = c.in-Some.field-0-0.now in
-    let seq = c.in-Some.seq.now in
+    let letter = c.in-Some.front.first.now in
+    let seq = c.in-Some.front.second.now in
     let index = c.in-Some-split_at_bar.index.now in
     let are = c.in-Some.ensures ∙ ap (λ (ts : List (List ℕ)). letter ∷ seq ∷ ts) c.in-Some-split_at_bar.ensures in
     ap Some c.number_field.ensures ∙ amendment_told c.args.line.now version letter seq index (fields_in c.in-Some-split_at_bar.field-0-1.now) are c.requires.few is

@@ -1,8 +1,7 @@
-use Rattle.std.proofs.Common.{◌≡◌, ◌+◌, ◌++◌, ◌≤◌, [], length, filter, refl, ap, ◌∙◌, arith}
-use Rattle.std.specs.List.{flat_map}
+use Rattle.std.proofs.Common.{◌≡◌, ◌+◌, ◌++◌, ◌≤◌, [], length, refl, ap, arith}
 use Rattle.metering_model.specs.BatchReading.{Lines, lines_in}
 use Rattle.metering_model.specs.Transcript.{line_count}
-use Rattle.fault_lines.specs.UnknownKeys.{has_key, told_along, told_unknown}
+use Rattle.fault_lines.specs.UnknownKeys.{told_along}
 use Rattle.fault_lines.proofs.UnknownLaws.{along_ends, along_goes_on, is_none, left_ends, left_goes_on, lines_fit}
 use Rattle.fault_lines.proofs.key_lines.put_along.Goals as goal
 
@@ -20,11 +19,9 @@ loop-index-preserved c =
     let line = c.in-Some.line.now in
     let rest = ap (λ (ls : Lines). ls.lines) c.in-Some.ensures in
     let n = c.args.opening + 1 + l.index in
-    let from : c.from.result + 1 + l.index ≡ n = ap (λ k. k + 1 + l.index) c.from.ensures in
     let next : c.args.opening + 1 + (l.index + 1) ≡ n + 1 = omega arith in
-    let told = c.in-Ok.ensures.told ∙ ap (λ k. l.told.items ++ flat_map (told_unknown k) (filter (has_key l.table.now line) l.keys.items)) from in
     let few : length (lines_in c.in-Some.behind.now).lines + (l.index + 1) ≤ line_count c.args.text.now = omega (arith, ap length rest, l.invariant.2) in (
-      along_goes_on _ _ _ l.table.now _ n _ l.keys.items _ _ line _ l.invariant.0 rest told c.in-Ok.ensures.left c.in-Ok.ensures.below next,
+      along_goes_on _ _ _ l.table.now _ n _ l.keys.items _ _ line _ l.invariant.0 rest c.in-Ok.ensures.told c.in-Ok.ensures.left c.in-Ok.ensures.below next,
       left_goes_on [] [] [] l.table.now _ n n l.keys.items _ _ line _ _ l.invariant.1 rest c.in-Ok.ensures.left c.in-Ok.ensures.below,
       few,
     )

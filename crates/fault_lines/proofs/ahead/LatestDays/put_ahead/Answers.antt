@@ -1,5 +1,6 @@
 use Rattle.std.proofs.Common.{◌≡◌, ◌-◌, List, None, slice_index_or, sym, ap, ◌∙◌, subst, ◌≤◌}
 use Rattle.std.proofs.lemmas.Option.{get_or_from_slice_get}
+use Rattle.std.proofs.lemmas.Result.{on_ok_weaker}
 use Rattle.metering_model.specs.Batch.{Batch}
 use Rattle.metering_model.specs.Limits.{most_agents}
 use Rattle.batch_view.specs.Batches.{batch_of}
@@ -18,7 +19,9 @@ returns c =
     let here = λ (journaled : List Batch) (are : AreLatest c.args.self.now journaled).
     ap (λ n. slice_index_or c.self.inside.days n None) at ∙ get_or_from_slice_get c.self.inside.days (b.agent - 1) (latest (days_of b.agent journaled)) None (there journaled are b.agent low high) in
     record {
-      said = λ journaled are. c.in-Ok.ensures.told (days_of b.agent journaled) (here journaled are);
+      said = λ journaled are. c.put_batch.ensures.told (days_of b.agent journaled) (here journaled are);
       latest = λ journaled are.
-          kept b journaled c.self.inside.days c.from-place.result c.in-Ok.latest low high at (c.in-Ok.ensures.latest (days_of b.agent journaled) (here journaled are)) (there journaled are);
+          on_ok_weaker c.put_batch.result
+          (λ now. kept b journaled c.self.inside.days c.from-place.result c.put_batch.new.above low high at now (there journaled are))
+          (c.put_batch.ensures.latest (days_of b.agent journaled) (here journaled are));
     }
