@@ -3,13 +3,6 @@ use Rattle.std.proofs.Common.{◌≡◌, cond, List, ℕ, ◌++◌, Result, Ok, 
 use Rattle.std.specs.Result.{is_ok}
 use Rattle.std.proofs.lemmas.Result.{on_ok_weaker}
 
--- a place, two pieces and an end
-pub put_in_four : {A E : Type 0} (r : Result A E) (old one two three four place word name end : List ℕ) → one ≡ old ++ place → two ≡ one ++ word → three ≡ two ++ name → OnOk r (four ≡ three ++ end)
-    → OnOk r (four ≡ old ++ ((place ++ (word ++ name)) ++ end))
-put_in_four r old one two three four place word name end p w n e =
-    let all : (((old ++ place) ++ word) ++ name) ++ end ≡ old ++ ((place ++ (word ++ name)) ++ end) = simp append_assoc in
-    on_ok_weaker r (λ is. is ∙ ap (λ t. t ++ end) (n ∙ ap (λ t. t ++ name) (w ∙ ap (λ t. t ++ word) p)) ∙ all) e
-
 -- a place, what is told there, and an end
 pub put_in_three : {A E : Type 0} (r : Result A E) (old one two three place words end : List ℕ) → one ≡ old ++ place → two ≡ one ++ words → OnOk r (three ≡ two ++ end)
     → OnOk r (three ≡ old ++ ((place ++ words) ++ end))

@@ -1,6 +1,6 @@
 //! On which line of its section a key stands that no reader takes.
 
-ghost use Rattle.std.specs.Prelude.{◌≡◌, ◌≤◌, [], not, ◌+◌, ◌++◌, length, IfOk, OnOk, map, filter};
+ghost use Rattle.std.specs.Prelude.{◌≡◌, ◌≤◌, [], not, ◌+◌, ◌++◌, codes, length, IfOk, OnOk, map, filter};
 ghost use Rattle.std.specs.List.{flat_map, position_or_len};
 ghost use Rattle.metering_model.specs.BatchReading.{lines_in};
 ghost use Rattle.fault_lines.specs.UnknownKeys.{first_word, from_first, has_key, is_key, keys_left, shown, table_below, table_of, told_along, told_of_keys, told_unknown};
@@ -116,10 +116,14 @@ fn shown(byte: u8) -> u8
     if byte < 32 || byte == 127 { b'?' } else { byte }
 }
 
-/// Appends a key's name.
+/// Appends that a key of this name is unknown.
 fn put_name(told: &mut Vec<u8>, name: &[u8]) -> Result<(), AllocError>
-    ensures { OnOk result (told.new.items ≡ told.old.items ++ map shown name.now) }
+    ensures { OnOk result (told.new.items
+        ≡ told.old.items ++ (codes "unknown " ++ map shown name.now)) }
 {
+    let Ok(()) = told.extend_from_slice(b"unknown ") else {
+        return Err(AllocError);
+    };
     for byte in name {
         let Ok(()) = told.push(shown(*byte)) else {
             return Err(AllocError);
@@ -133,9 +137,6 @@ fn put_unknown(told: &mut Vec<u8>, line: u128, key: &UnknownKey<'_>) -> Result<(
     ensures { OnOk result (told.new.items ≡ told.old.items ++ told_unknown line key.now) }
 {
     let Ok(()) = put_place(told, line) else {
-        return Err(AllocError);
-    };
-    let Ok(()) = told.extend_from_slice(b"unknown ") else {
         return Err(AllocError);
     };
     let Ok(()) = put_name(told, key.name) else {
