@@ -1,4 +1,5 @@
 pub mod Plans
+pub mod Stops
 pub mod Lines
 pub mod Judged
 pub mod Walks

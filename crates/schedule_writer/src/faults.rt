@@ -1,7 +1,5 @@
 //! Why no schedule was written, or not all of one.
 
-ghost use Rattle.schedule_writer.specs.Inner.Judged.{IsUncertain};
-
 use thiserror::Error;
 
 /// Why no schedule was written, or not all of one.
@@ -37,13 +35,17 @@ pub(crate) enum Stop {
     OutOfMemory,
 }
 
-/// What a stop is told as, which is no fault of the input.
-pub(crate) fn fault_of(stop: Stop) -> WriteFault
-    ensures { IsUncertain result }
-{
-    match stop {
-        Stop::TooLong => WriteFault::TooLong,
-        Stop::NotClosed => WriteFault::NotClosed,
-        Stop::OutOfMemory => WriteFault::OutOfMemory,
+impl From<Stop> for WriteFault {
+    ghost use Rattle.std.specs.Prelude.{◌≡◌};
+    ghost use Rattle.schedule_writer.specs.Inner.Stops.{of_stop};
+
+    ghost from_gives = { λ stop told. told ≡ of_stop stop };
+
+    fn from(stop: Stop) -> WriteFault {
+        match stop {
+            Stop::TooLong => WriteFault::TooLong,
+            Stop::NotClosed => WriteFault::NotClosed,
+            Stop::OutOfMemory => WriteFault::OutOfMemory,
+        }
     }
 }

@@ -11,7 +11,7 @@ ghost use Rattle.metering_model.specs.Limits.{last_period, most_agents, most_inp
 ghost use Rattle.metering_model.specs.Transcript.{line};
 ghost use Rattle.fault_lines.specs.Told.{said_of_fault};
 ghost use Rattle.schedule_writer.specs.Faults.{TellsFaults, tells_of_reader, tells_of_writer};
-ghost use Rattle.schedule_writer.specs.Inputs.{least_last};
+ghost use Rattle.schedule_writer.specs.Inputs.{above_last, least_last};
 ghost use Rattle.schedule_writer.specs.Requests.{IsRequest};
 ghost use Rattle.schedule_writer.specs.Schedules.{IsScheduleOf};
 ghost use Rattle.schedule_writer.specs.Inner.Certified.{IsCertified};
@@ -22,7 +22,7 @@ ghost use Rattle.schedule_writer.specs.Inner.Walks.{IsGiven};
 use crate::asked::Request;
 use crate::certifying::certify;
 use crate::drafting::schedule_for;
-use crate::faults::{Stop, WriteFault, fault_of};
+use crate::faults::{Stop, WriteFault};
 use crate::inputs::Offered;
 use crate::judging::{Asked, read_items, refused};
 use crate::plans::Plan;
@@ -34,6 +34,13 @@ use schedule_player::{PlayFault, read_input};
 use std::alloc::Global;
 use std::sync::Arc;
 
+/// How many batches stand above the last line that closes a period; 0 where there is none.
+fn above_last(closes: &[usize]) -> usize
+    ensures { result ≡ above_last closes.now }
+{
+    closes.last().copied().unwrap_or(0)
+}
+
 /// The period that is closed last for the sake of the lines that close one: that of the last of them; or the one after, where none
 /// is asked for and a batch stands below it.
 fn least_last(through: Option<u16>, count: usize, closes: &[usize]) -> usize
@@ -42,8 +49,7 @@ fn least_last(through: Option<u16>, count: usize, closes: &[usize]) -> usize
     match through {
         Some(_) => closes.len().saturating_sub(1),
         None => {
-            let above_last = closes.last().copied().unwrap_or(0);
-            if above_last < count {
+            if above_last(closes) < count {
                 closes.len()
             } else {
                 closes.len().saturating_sub(1)
@@ -136,7 +142,7 @@ fn schedule_with(
     };
     match certified_text(alloc, &plan, asked.agents, issuer, input, batch_from) {
         Ok(text) => Ok(text),
-        Err(stop) => Err(fault_of(stop)),
+        Err(stop) => Err(WriteFault::from(stop)),
     }
 }
 
