@@ -1,5 +1,5 @@
 -- One look at the first bytes of a text: how many come before the first that passes a test.
-use Rattle.std.proofs.Common.{◌≡◌, ℕ, ◌%◌, ◌^◌, ◌+◌, ◌-◌, ◌<◌, ◌≤◌, Bool, true, false, not, List, [], ◌∷◌, Some, None, map, length, take, drop, get_or, Fits, w8, refl, sym, ap, subst, ◌∙◌, arith, length-drop, inl, inr}
+use Rattle.std.proofs.Common.{◌≡◌, ◌==◌, ℕ, ◌%◌, ◌^◌, ◌+◌, ◌-◌, ◌<◌, ◌≤◌, eqb, Bool, true, false, not, List, [], ◌∷◌, Some, None, map, length, take, drop, get_or, Fits, w8, refl, sym, ap, subst, ◌∙◌, arith, length-drop, inl, inr}
 use Rattle.std.proofs.lemmas.Bool.{agree_below, agree_below_at, cases_lt}
 use Rattle.std.proofs.lemmas.List.{length-map, get_or-drop, take_all}
 use Rattle.std.proofs.lemmas.Simd.{map-map, mask_l-mod, length-chunk, first_set_mask_l, run_in_chunk_le, run_in_chunk_fails, run_in_chunk_stops}
@@ -93,3 +93,13 @@ pub no_stop_in_last : (test : ℕ → Bool) (d : List ℕ) (at run : ℕ) → Ar
     → IsRun test (take (length d - (length d - 16)) (drop (length d - 16) d)) 16 run → 16 ≤ run → None ≡ position test d
 no_stop_in_last test d at run passed long near look full =
     none_in_last test d at (length d - 16) 16 run (omega arith) (omega arith) passed.1 (rest_run test d (length d - 16) 16 run look) full
+
+-- Lanes that tell of each byte whether it is a certain one.
+pub byte_run : (byte : ℕ) (d : List ℕ) (many run : ℕ) → 0 + many ≤ length d → run ≡ prefix_len (λ c. not (eqb c byte)) (chunk 0 many d) → IsRun (λ c. c == byte) d many run
+byte_run byte d many run room counted =
+    let at : run ≡ 0 + run = omega arith in
+    record {
+      within = run_in_chunk_le (λ c. eqb c byte) d 0 many run 0 room counted;
+      before = λ k below. run_in_chunk_fails (λ c. eqb c byte) d 0 many run 0 room counted k (omega arith) (omega arith);
+      here = λ short. ap (λ k. eqb (get_or d k 0) byte) at ∙ run_in_chunk_stops (λ c. eqb c byte) d 0 many run 0 room counted short;
+    }

@@ -4,17 +4,10 @@ ghost use Rattle.std.specs.Prelude.{◌≡◌, ◌+◌, ◌==◌, ◌<◌, ◌�
 ghost use Rattle.metering_model.specs.BatchReading.{fields_in, lines_in, with_line};
 ghost use Rattle.metering_model.specs.Transcript.{line_count};
 ghost use Rattle.byte_text.specs.Lines.{IsPast};
-ghost use Rattle.byte_text.specs.Runs.{lowest_set};
+ghost use Rattle.byte_text.specs.Runs.{IsRun, lowest_set};
 
 use memchr::memchr;
 use std::simd::prelude::*;
-
-/// The index of the first such byte; None where the text has none.
-pub fn find_byte(text: &[u8], byte: u8) -> Option<usize>
-    ensures { result ≡ position (λ c. c == byte) text.now }
-{
-    memchr(byte, text)
-}
 
 /// The index of the lowest bit that is set in the mask, or `many` where none is.
 #[inline(always)]
@@ -26,6 +19,53 @@ pub fn lowest_set(mask: u64, many: usize) -> usize
     } else {
         mask.trailing_zeros() as usize
     }
+}
+
+/// How many of the first bytes come before the first such one, so many as are tested at once; all of them where none is.
+#[inline(always)]
+fn run_before<const LANES: usize>(text: &[u8], byte: u8) -> usize
+    requires lanes { LANES ≤ 64 }
+    requires from { LANES ≤ length text.now }
+    ensures { IsRun (λ c. c == byte) text.now LANES result }
+{
+    let found = Simd::<u8, LANES>::from_slice(text).simd_eq(Simd::splat(byte));
+    lowest_set(found.to_bitmask(), LANES)
+}
+
+/// The index of such a byte where the first bytes have one, so many as are tested at once, and else the library's answer.
+#[inline(always)]
+fn find_near<const LANES: usize>(text: &[u8], byte: u8) -> Option<usize>
+    requires lanes { LANES ≤ 64 }
+    requires from { LANES ≤ length text.now }
+    ensures { result ≡ position (λ c. c == byte) text.now }
+{
+    let run = run_before::<LANES>(text, byte);
+    if run < LANES {
+        return Some(run);
+    }
+    find_far(text, byte)
+}
+
+/// The same by the library alone, which costs more where the byte is near.
+fn find_far(text: &[u8], byte: u8) -> Option<usize>
+    ensures { result ≡ position (λ c. c == byte) text.now }
+{
+    memchr(byte, text)
+}
+
+/// The index of the first such byte; None where the text has none.
+pub fn find_byte(text: &[u8], byte: u8) -> Option<usize>
+    ensures { result ≡ position (λ c. c == byte) text.now }
+{
+    // A field or a word is short: one test finds where it ends, and needs no call.
+    let count = text.len();
+    if count >= 16 {
+        return find_near::<16>(text, byte);
+    }
+    if count >= 4 {
+        return find_near::<4>(text, byte);
+    }
+    find_far(text, byte)
 }
 
 /// How many line feeds the first bytes of a text have, so many as are tested at once: the bits of the mask are counted.
