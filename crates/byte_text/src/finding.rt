@@ -57,8 +57,11 @@ fn find_far(text: &[u8], byte: u8) -> Option<usize>
 pub fn find_byte(text: &[u8], byte: u8) -> Option<usize>
     ensures { result ≡ position (λ c. c == byte) text.now }
 {
-    // A field or a word is short: one test finds where it ends, and needs no call.
+    // A field, a word or a schedule's line is short: one test finds where it ends, and needs no call.
     let count = text.len();
+    if count >= 32 {
+        return find_near::<32>(text, byte);
+    }
     if count >= 16 {
         return find_near::<16>(text, byte);
     }
