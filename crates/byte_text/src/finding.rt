@@ -65,6 +65,9 @@ pub fn find_byte(text: &[u8], byte: u8) -> Option<usize>
     if count >= 16 {
         return find_near::<16>(text, byte);
     }
+    if count >= 8 {
+        return find_near::<8>(text, byte);
+    }
     if count >= 4 {
         return find_near::<4>(text, byte);
     }
