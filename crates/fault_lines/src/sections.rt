@@ -58,9 +58,6 @@ fn put_sheet_words(told: &mut Vec<u8>, fault: SheetFault) -> Result<(), AllocErr
     put_sheet_fault(told, fault)
 }
 
-/// Drops a sheet beside no other value, for the prover's time alone (docs/DECISIONS.md).
-fn drop_sheet(_sheet: Sheet) {}
-
 /// Appends what the reader of a sheet says of a text.
 fn put_sheet_answer(alloc: Global, told: &mut Vec<u8>, text: &str) -> Result<(), AllocError>
     ensures { OnOk result (told.new.items
@@ -68,7 +65,8 @@ fn put_sheet_answer(alloc: Global, told: &mut Vec<u8>, text: &str) -> Result<(),
 {
     match Sheet::read(alloc, text) {
         Ok(sheet) => {
-            drop_sheet(sheet);
+            // Dropped by a call for the prover's time alone, as an issuer below (docs/DECISIONS.md).
+            sheet.release();
             Ok(())
         }
         Err(SheetFault::OutOfMemory) => Err(AllocError),
@@ -106,9 +104,6 @@ fn put_issuer_words(told: &mut Vec<u8>, fault: IssuerFault) -> Result<(), AllocE
     put_issuer_fault(told, fault)
 }
 
-/// Drops an issuer beside no other value, for the prover's time alone (docs/DECISIONS.md).
-fn drop_issuer(_issuer: Issuer) {}
-
 /// Appends what the reader of an issuer says of a text.
 fn put_issuer_answer(alloc: Global, told: &mut Vec<u8>, text: &str) -> Result<(), AllocError>
     ensures { OnOk result (told.new.items
@@ -116,7 +111,7 @@ fn put_issuer_answer(alloc: Global, told: &mut Vec<u8>, text: &str) -> Result<()
 {
     match Issuer::read(alloc, text) {
         Ok(issuer) => {
-            drop_issuer(issuer);
+            issuer.release();
             Ok(())
         }
         Err(IssuerFault::OutOfMemory) => Err(AllocError),

@@ -53,6 +53,9 @@ fn is_same_offer(one: &Offer, two: &Offer) -> bool
 }
 
 impl Event {
+    /// Drops the event. A crate above calls it in place of `drop`, for the prover's time alone (docs/DECISIONS.md).
+    pub fn release(self) {}
+
     /// An equal event, which shares the batch, or what was read of a text. An error is an allocation failure, and comes
     /// only of an event with one of these.
     pub fn copy(&self) -> Result<Event, AllocError>

@@ -37,6 +37,9 @@ pub enum Reply {
 }
 
 impl Reply {
+    /// Drops the reply. A crate above calls it in place of `drop`, for the prover's time alone (docs/DECISIONS.md).
+    pub fn release(self) {}
+
     /// An equal reply. An error is an allocation failure, and comes only of an export and of a kept text.
     pub fn copy(&self, alloc: Global) -> Result<Reply, AllocError>
         ensures copy { IfOk result (λ copy. reply_of copy ≡ reply_of self.now) }

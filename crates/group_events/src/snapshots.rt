@@ -83,6 +83,9 @@ fn share_names(
 }
 
 impl Snapshot {
+    /// Drops the snapshot. A crate above calls it in place of `drop`, for the prover's time alone (docs/DECISIONS.md).
+    pub fn release(self) {}
+
     /// The snapshot of a period between two cuts: the batches up to the later one are shared. The store has to have
     /// each of them, and they to meet the rules of the journals. An error is an allocation failure.
     pub fn of(

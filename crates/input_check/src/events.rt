@@ -322,7 +322,7 @@ fn check_read(
 {
     let Ok(()) = put_unknown_on(alloc, warned, text, SHEET_LINE) else {
         // Dropped by a call for the prover's time alone (docs/DECISIONS.md).
-        drop(above);
+        above.release();
         return Err(AllocError);
     };
     check_behind(alloc, shared, above, text.len(), told, warned)

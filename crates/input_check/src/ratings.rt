@@ -74,7 +74,7 @@ pub(crate) fn check_rating(
         Ok(given) => {
             let checked = check_given(alloc, text, &given, told, warned);
             // Dropped by a call for the prover's time alone (docs/DECISIONS.md).
-            drop(given);
+            given.release();
             checked
         }
         Err(fault) => put_fault(alloc, told, text, fault),

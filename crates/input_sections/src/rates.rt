@@ -24,6 +24,15 @@ pub struct RateInput {
     pub batch_from: usize,
 }
 
+impl RateInput {
+    /// Drops the input. A crate above calls it in place of `drop`, for the prover's time alone (docs/DECISIONS.md).
+    pub fn release(self) {
+        let RateInput { sheet, issuer, .. } = self;
+        sheet.release();
+        issuer.release();
+    }
+}
+
 /// The sheet, if a section is there, or else one without rows whose base month is 2025-01.
 fn sheet_or_default<'a>(
     alloc: Global,
@@ -67,9 +76,6 @@ fn issuer_or_sample<'a>(
     }
 }
 
-/// Drops a sheet beside no other value, for the prover's time alone (docs/DECISIONS.md).
-fn drop_sheet(_sheet: Sheet) {}
-
 /// The input of a rating whose sheet was read: the issuer follows, and the batch is what is left then.
 fn input_behind<'a>(
     alloc: Global,
@@ -92,7 +98,8 @@ fn input_behind<'a>(
             batch_from: unread.from(),
         }),
         Err(fault) => {
-            drop_sheet(sheet);
+            // Dropped by a call for the prover's time alone (docs/DECISIONS.md).
+            sheet.release();
             Err(fault)
         }
     }

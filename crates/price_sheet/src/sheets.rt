@@ -49,6 +49,9 @@ impl Model for Sheet {
 }
 
 impl Sheet {
+    /// Drops the sheet. A crate above calls it in place of `drop`, for the prover's time alone (docs/DECISIONS.md).
+    pub fn release(self) {}
+
     /// Reads a sheet from TOML. An error is the text's first fault, or OutOfMemory, which never comes of a text of
     /// nothing but blanks and comments.
     #[tactic(auto, unfolding(crate::specs::SheetReading::sheet_of_text))]

@@ -55,7 +55,7 @@ fn group_sharing(
         Ok(issuer) => Ok(group_with(head, sheet, issuer)),
         Err(unshared) => {
             // Dropped by calls for the prover's time alone, here and below (docs/DECISIONS.md).
-            drop(unshared.value);
+            unshared.value.release();
             drop_shared(sheet);
             Err(AllocError)
         }
@@ -75,8 +75,8 @@ fn group_of(
     match Arc::new(alloc, sheet) {
         Ok(sheet) => group_sharing(alloc, head, sheet, issuer),
         Err(unshared) => {
-            drop(unshared.value);
-            drop(issuer);
+            unshared.value.release();
+            issuer.release();
             Err(AllocError)
         }
     }

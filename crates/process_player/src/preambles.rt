@@ -47,8 +47,8 @@ pub(crate) fn drop_preamble(preamble: Preamble) {
         ..
     } = preamble;
     drop_log(own);
-    drop(sheet);
-    drop(issuer);
+    sheet.release();
+    issuer.release();
 }
 
 /// What is judged of what is ahead, from its beginning to that place.
@@ -85,7 +85,7 @@ fn read_sheet_and_issuer(
         Ok((issuer, rest)) => Ok((sheet, issuer, rest.line())),
         Err(fault) => {
             // Dropped by a call for the prover's time alone (docs/DECISIONS.md).
-            drop(sheet);
+            sheet.release();
             Err(fault)
         }
     }

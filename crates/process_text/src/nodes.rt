@@ -137,7 +137,12 @@ fn export(
         node.now node.now text.old.items text.new.items) }
 {
     match node.export(alloc, period) {
-        Ok(Ok(snapshot)) => put_file(alloc, text, &snapshot),
+        Ok(Ok(snapshot)) => {
+            let put = put_file(alloc, text, &snapshot);
+            // Dropped by a call for the prover's time alone (docs/DECISIONS.md).
+            snapshot.release();
+            put
+        }
         Ok(Err(why)) => put_refusal(text, why),
         Err(failed) => Err(failed),
     }

@@ -50,7 +50,7 @@ pub fn opening_world(
     ensures { IfOk result (λ world. world ≡ opening voters observers agents sheet issuer) }
 {
     let Ok(sheet) = shared(alloc, sheet) else {
-        drop(issuer);
+        issuer.release();
         return Err(AllocError);
     };
     let issuer = shared(alloc, issuer)?;
@@ -162,7 +162,7 @@ fn unplayed(alloc: Global, input: &[u8]) -> PlayFault
     match read {
         Ok(schedule) => {
             // Dropped by a call for the prover's time alone (docs/DECISIONS.md).
-            drop(schedule);
+            schedule.release();
             PlayFault::OutOfMemory
         }
         Err(fault) => PlayFault::from(fault),

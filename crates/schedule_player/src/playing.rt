@@ -149,6 +149,6 @@ pub(crate) fn play_events<W: Sink>(
     let done = play_lines(alloc, &mut world, text, events, &mut lines, writer);
     // Dropped by calls for the prover's time alone (docs/DECISIONS.md).
     drop(lines);
-    drop(world);
+    world.release();
     done
 }

@@ -122,6 +122,13 @@ pub struct Preamble<'a> {
 }
 
 impl<'a> Preamble<'a> {
+    /// Drops what stands above. A crate above calls it in place of `drop`, for the prover's time alone (docs/DECISIONS.md).
+    pub fn release(self) {
+        let Preamble { sheet, issuer, .. } = self;
+        sheet.release();
+        issuer.release();
+    }
+
     /// Reads what stands above the events of a schedule. Refused is the text's first fault by line. OutOfMemory comes
     /// only of a text whose numbers of nodes and agents are read.
     #[tactic(auto, unfolding(crate::specs::Schedules::preamble_in))]
@@ -150,7 +157,7 @@ impl<'a> Preamble<'a> {
             Ok(read) => read,
             Err(fault) => {
                 // Dropped by a call for the prover's time alone (docs/DECISIONS.md).
-                drop(sheet);
+                sheet.release();
                 return Err(fault);
             }
         };
@@ -185,6 +192,13 @@ fn all_events<'a>(
 }
 
 impl<'a> Schedule<'a> {
+    /// Drops the schedule. A crate above calls it in place of `drop`, for the prover's time alone (docs/DECISIONS.md).
+    pub fn release(self) {
+        let Schedule { sheet, issuer, .. } = self;
+        sheet.release();
+        issuer.release();
+    }
+
     /// Reads the text of a schedule; journals are lent from it, and not read as batches.
     ///
     /// Refused is the first fault by line. OutOfMemory comes only of a text whose numbers of nodes and agents are read.
@@ -234,8 +248,8 @@ impl<'a> Schedule<'a> {
             }),
             Err(fault) => {
                 // Dropped by calls for the prover's time alone (docs/DECISIONS.md).
-                drop(issuer);
-                drop(sheet);
+                issuer.release();
+                sheet.release();
                 Err(fault)
             }
         }

@@ -73,7 +73,7 @@ fn do_made(
     };
     let next = plan.behind(alloc, seen, journals, planned, &reply);
     // Dropped by a call for the prover's time alone (docs/DECISIONS.md).
-    drop(reply);
+    reply.release();
     match next {
         Ok(Some(next)) => match keep_batch(journals, event) {
             Ok(()) => Ok(next),
@@ -114,7 +114,7 @@ fn do_next<'a>(
     };
     let next = do_made(alloc, plan, world, journals, seen, &planned, &event);
     // Dropped by a call for the prover's time alone (docs/DECISIONS.md).
-    drop(event);
+    event.release();
     match next {
         Ok(next) => Ok((next, rest)),
         Err(stop) => Err(stop),
@@ -205,11 +205,11 @@ fn do_behind(
         Ok(mut journals) => {
             let seen = do_events(alloc, plan, &mut world, &mut journals, text, rest, most);
             // Dropped by a call for the prover's time alone (docs/DECISIONS.md), as in the other arm.
-            drop(world);
+            world.release();
             seen
         }
         Err(_) => {
-            drop(world);
+            world.release();
             Err(Stop::OutOfMemory)
         }
     }
@@ -240,7 +240,7 @@ fn certify_below(
 {
     if !is_planned(plan, agents, issuer, &above) {
         // Dropped by a call for the prover's time alone (docs/DECISIONS.md).
-        drop(above);
+        above.release();
         return Err(Stop::NotClosed);
     }
     match do_behind(alloc, plan, text, above, most) {

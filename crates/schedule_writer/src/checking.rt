@@ -69,7 +69,7 @@ fn check_offered(
         Err(error) => Err(error),
     };
     // Dropped by a call for the prover's time alone (docs/DECISIONS.md).
-    drop(event);
+    event.release();
     checked
 }
 
@@ -197,7 +197,7 @@ fn check_batches(
     };
     let checked = check_items(alloc, &mut world, text, input, batch_from, told, warned);
     // Dropped by a call for the prover's time alone (docs/DECISIONS.md).
-    drop(world);
+    world.release();
     checked
 }
 
@@ -218,7 +218,7 @@ fn put_said(
         Ok(given) => {
             let Ok(()) = put_unknown_on(alloc, warned, input, 1) else {
                 // Dropped by a call for the prover's time alone (docs/DECISIONS.md).
-                drop(given);
+                given.release();
                 return Err(AllocError);
             };
             check_batches(alloc, text, input, given, told, warned)

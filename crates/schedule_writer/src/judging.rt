@@ -148,7 +148,7 @@ fn judge(
     let mut told = Vec::new(alloc);
     let journaled = journal_offered(alloc, world, input, offered, None, &event, &mut told);
     // Dropped by a call for the prover's time alone (docs/DECISIONS.md).
-    drop(event);
+    event.release();
     match journaled {
         Ok(true) => Ok(more),
         Ok(false) => Err(refused(told)),
@@ -291,7 +291,7 @@ pub(crate) fn read_items<'a>(
     };
     let taken = take_items(alloc, text, &mut world, sheet, input, from, &mut items);
     // Dropped by a call for the prover's time alone (docs/DECISIONS.md).
-    drop(world);
+    world.release();
     match taken {
         Ok(()) => Ok(items),
         Err(fault) => Err(fault),

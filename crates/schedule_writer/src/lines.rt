@@ -110,7 +110,7 @@ pub(crate) fn journal_offered(
     };
     let refusal = refusal_of(&reply);
     // Dropped by a call for the prover's time alone (docs/DECISIONS.md).
-    drop(reply);
+    reply.release();
     match refusal {
         None => Ok(true),
         Some(refusal) => {

@@ -214,7 +214,7 @@ fn schedule_of(
         Ok(sheet) => sheet,
         Err(fault) => {
             // Dropped by a call for the prover's time alone (docs/DECISIONS.md).
-            drop(issuer);
+            issuer.release();
             return Err(fault);
         }
     };

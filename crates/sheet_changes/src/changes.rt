@@ -52,14 +52,11 @@ fn nothing_behind(unread: &Unread<'_>) -> Result<(), ScheduleFault>
     }
 }
 
-/// Drops a sheet beside no other value, for the prover's time alone (docs/DECISIONS.md).
-fn drop_sheet(_sheet: Sheet) {}
-
-/// Drops two sheets, one after the other.
+/// Drops two sheets, one after the other, as all here for the prover's time alone (docs/DECISIONS.md).
 pub(crate) fn drop_both(both: (Sheet, Sheet)) {
     let (old, new) = both;
-    drop_sheet(old);
-    drop_sheet(new);
+    old.release();
+    new.release();
 }
 
 /// A sheet behind which nothing is to stand.
@@ -71,7 +68,7 @@ fn alone(sheet: Sheet, behind: &Unread<'_>) -> Result<Sheet, ScheduleFault>
     match nothing_behind(behind) {
         Ok(()) => Ok(sheet),
         Err(fault) => {
-            drop_sheet(sheet);
+            sheet.release();
             Err(fault)
         }
     }
@@ -103,7 +100,7 @@ fn with_last(
     match last_sheet(alloc, unread) {
         Ok(new) => Ok((old, new)),
         Err(fault) => {
-            drop_sheet(old);
+            old.release();
             Err(fault)
         }
     }

@@ -45,6 +45,9 @@ impl Model for Issuer {
 }
 
 impl Issuer {
+    /// Drops the issuer. A crate above calls it in place of `drop`, for the prover's time alone (docs/DECISIONS.md).
+    pub fn release(self) {}
+
     /// Reads an issuer from TOML. An error is the text's first fault, or OutOfMemory.
     #[tactic(auto, unfolding(crate::specs::IssuerReading::issuer_of_text))]
     pub fn read(alloc: Global, text: &str) -> Result<Issuer, IssuerFault>
