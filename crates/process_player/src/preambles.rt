@@ -82,12 +82,12 @@ fn read_sheet_and_issuer(
 {
     let (sheet, below) = read_sheet(alloc, unread)?;
     match read_issuer(alloc, &below) {
-        Ok((issuer, rest)) => Ok((sheet, issuer, rest.line())),
         Err(fault) => {
             // Dropped by a call for the prover's time alone (docs/DECISIONS.md).
             sheet.release();
             Err(fault)
         }
+        Ok((issuer, rest)) => Ok((sheet, issuer, rest.line())),
     }
 }
 
