@@ -5,9 +5,9 @@ use Rattle.process_text.proofs.nodes.export.Goals as goal
 
 pub returns-in-Ok-Ok : goal.returns-in-Ok-Ok
 returns-in-Ok-Ok c =
-    then_ok c.put_file.result _ _
-    (λ put. node_exports c.args.node.now c.args.period c.in-Ok-Ok.field-0 (Ok c.in-Ok-Ok.snapshot) c.args.text.now.items c.put_file.new.text.items c.in-Ok-Ok.ensures c.in-Ok-Ok.field-0-is put)
-    c.put_file.ensures
+    then_ok c.put_file-put.result _ _
+    (λ put. node_exports c.args.node.now c.args.period c.in-Ok-Ok.field-0 (Ok c.in-Ok-Ok.snapshot) c.args.text.now.items c.put_file-put.new.text.items c.in-Ok-Ok.ensures c.in-Ok-Ok.field-0-is put)
+    c.put_file-put.ensures
 
 pub returns-in-Ok-Err : goal.returns-in-Ok-Err
 returns-in-Ok-Err c =
