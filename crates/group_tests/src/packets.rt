@@ -39,7 +39,7 @@ const OTHERS: &[&[u8]] = &[
 ];
 
 /// What is read of a text, asked once more where an allocation fails.
-fn read_again(alloc: Global, text: &[u8]) -> Result<Option<GroupPacket>, AllocError> {
+fn read_again(alloc: Global, text: &[u8]) -> Result<Option<GroupPacket<'_>>, AllocError> {
     match read_packet(alloc, text) {
         Ok(read) => Ok(read),
         Err(_) => read_packet(alloc, text),
@@ -47,7 +47,7 @@ fn read_again(alloc: Global, text: &[u8]) -> Result<Option<GroupPacket>, AllocEr
 }
 
 /// Whether a packet has this text: where an allocation fails nothing is written, and it is written once more.
-fn has_text(alloc: Global, packet: &GroupPacket, text: &[u8]) -> bool {
+fn has_text(alloc: Global, packet: &GroupPacket<'_>, text: &[u8]) -> bool {
     let mut written = Vec::new(alloc);
     if put_packet(&mut written, packet.group(), packet.packet()).is_err() {
         let is_empty = written.as_slice().is_empty();

@@ -2,6 +2,7 @@
 #![tactic(auto)]
 
 pub mod laws;
+mod lines;
 mod numbers;
 mod packets;
 mod reading;

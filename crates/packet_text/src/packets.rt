@@ -3,30 +3,29 @@
 ghost use Rattle.std.specs.Prelude.{◌≡◌};
 ghost use Rattle.group_node.specs.Packets.{packet_of};
 
-use byte_text::Line;
 use group_node::Packet;
 use std::marker::Model;
 
-/// A packet, and the name of the group in which it is sent.
+/// A packet, and the name of the group in which it is sent, which the text lends that it was read from.
 #[derive(Drop)]
-pub struct GroupPacket {
-    name: Line,
+pub struct GroupPacket<'a> {
+    name: &'a [u8],
     sent: Packet,
 }
 
-impl Model for GroupPacket {
+impl<'a> Model for GroupPacket<'a> {
     ghost use Rattle.group_node.specs.Packets.{packet_of};
     ghost use Rattle.packet_text.specs.PacketText as model;
 
     ghost Value = { model.GroupPacket };
 
-    ghost view = { λ p. record { group = p.name; packet = packet_of p.sent } };
+    ghost view = { λ p. record { group = p.name.now; packet = packet_of p.sent } };
 }
 
-impl GroupPacket {
+impl<'a> GroupPacket<'a> {
     /// The packet, of a group of that name.
-    pub(crate) fn of(name: Line, sent: Packet) -> GroupPacket
-        ensures group { result.group ≡ name }
+    pub(crate) fn of(name: &'a [u8], sent: Packet) -> GroupPacket<'a>
+        ensures group { result.group ≡ name.now }
         ensures packet { result.packet ≡ packet_of sent }
     {
         GroupPacket { name, sent }
@@ -36,7 +35,7 @@ impl GroupPacket {
     pub fn group(&self) -> &[u8]
         ensures { result.now ≡ self.now.group }
     {
-        self.name.as_slice()
+        self.name
     }
 
     /// The packet, lent.
@@ -48,7 +47,7 @@ impl GroupPacket {
 
     /// The packet.
     pub fn into_packet(self) -> Packet
-        ensures { packet_of result ≡ self.packet }
+        ensures { packet_of result ≡ self.entry.packet }
     {
         self.sent
     }

@@ -13,10 +13,11 @@ ghost use Rattle.packet_text.specs.Inner.Heads.{HasHead, HasNoHead};
 ghost use Rattle.packet_text.specs.Inner.Numbers.{numbers_in, sent_in};
 ghost use Rattle.packet_text.specs.Inner.Unread.{IfNoMemory, IfNoPacket};
 
+use crate::lines::first_line;
 use crate::numbers::{count_fields, is_group, read_ballot, read_lines, read_node, read_period};
 use crate::packets::GroupPacket;
 use batch_view::{Offer, OwnedBatch};
-use byte_text::{Line, first_line, is_same, split_at_bar};
+use byte_text::{is_same, split_at_bar};
 use group_node::Packet;
 use paxos_ballot::{Ballot, Vote};
 use period_cut::{Cut, Period};
@@ -400,19 +401,12 @@ fn read_head(line: &[u8]) -> Option<Head<'_>>
     })
 }
 
-/// The name of a group, copied.
-fn copied(name: &[u8]) -> Line
-    requires { IsTrue (is_group name.now) }
-    ensures { result ≡ name.now }
-{
-    let mut line = Line::new();
-    line.put(name);
-    line
-}
-
 /// The packet whose text this is, with the name of its group; `None` where the text is not just that of one. An error
 /// is an allocation failure, and comes only of a text that begins as a packet other than a Prepare.
-pub fn read_packet(alloc: Global, text: &[u8]) -> Result<Option<GroupPacket>, AllocError>
+pub fn read_packet<'a>(
+    alloc: Global,
+    text: &'a [u8],
+) -> Result<Option<GroupPacket<'a>>, AllocError>
     ensures read { IfOk result (λ read. read ≡ packet_in text.now) }
     ensures limits { IfOk result (λ read. IfSome read (λ p. HasPacketText p.group p.packet)) }
     ensures want { OnErr result (IsTrue (may_take_memory text.now)) }
@@ -424,7 +418,7 @@ pub fn read_packet(alloc: Global, text: &[u8]) -> Result<Option<GroupPacket>, Al
         return Ok(None);
     };
     match read_word_packet(alloc, head.word, head.numbers, below) {
-        Ok(packet) => Ok(Some(GroupPacket::of(copied(head.name), packet))),
+        Ok(packet) => Ok(Some(GroupPacket::of(head.name, packet))),
         Err(why) => match why {
             Unread::NoPacket => Ok(None),
             Unread::NoMemory => Err(AllocError),

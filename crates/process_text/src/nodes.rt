@@ -69,7 +69,7 @@ fn put_taken(
 fn take_packet(
     alloc: Global,
     node: &mut NodeProcess,
-    handed: &GroupPacket,
+    handed: &GroupPacket<'_>,
     text: &mut Vec<u8>,
 ) -> Result<(), AllocError>
     ensures { OnOk result (AppendsNode (AsksNode (TakePacket handed.now.group handed.now.packet))

@@ -12,7 +12,7 @@ returns-in-Ok c =
     let below = c.in-Some.below.now in
     let first = at_first_line text c.in-Some.line.now below c.in-Some.ensures in
     let is = first ∙ c.in-Some-read_head.ensures.read below ∙ ap (of_group name) c.in-Ok.ensures.read in
-    let parts = ap Some (of_parts c.of.result name (packet_of c.in-Ok.packet) (c.of.ensures.group ∙ c.copied.ensures) c.of.ensures.packet) in
+    let parts = ap Some (of_parts c.of.result name (packet_of c.in-Ok.packet) c.of.ensures.group c.of.ensures.packet) in
     record { read = parts ∙ sym is; limits = (packet_read text c.of.result (is ∙ sym parts)).1; want = tt }
 
 pub returns-in-NoPacket : goal.returns-in-NoPacket
