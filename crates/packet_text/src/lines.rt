@@ -8,7 +8,7 @@ use byte_text::{find_byte, lowest_set};
 use std::simd::prelude::*;
 
 /// So many bytes are looked at in one step.
-const LANES: usize = 16;
+const AT_ONCE: usize = 16;
 
 /// How many of the first bytes come before a line feed: all of them where none is one.
 #[inline(always)]
@@ -17,7 +17,7 @@ fn run_of_line(text: &[u8]) -> usize
     ensures { IsRun (λ c. c == 10) text.now 16 result }
 {
     let feeds = u8x16::from_slice(text).simd_eq(u8x16::splat(b'\n'));
-    lowest_set(feeds.to_bitmask(), LANES)
+    lowest_set(feeds.to_bitmask(), AT_ONCE)
 }
 
 /// Where the first line feed stands in a text of 16 to 32 bytes: among its first 16 or its last.
@@ -28,12 +28,12 @@ fn near_line_end(text: &[u8]) -> Option<usize>
     ensures { result ≡ position (λ c. c == 10) text.now }
 {
     let run = run_of_line(text);
-    if run < LANES {
+    if run < AT_ONCE {
         return Some(run);
     }
-    let behind = text.len() - LANES;
+    let behind = text.len() - AT_ONCE;
     let run = run_of_line(&text[behind..]);
-    if run < LANES {
+    if run < AT_ONCE {
         Some(behind + run)
     } else {
         None
@@ -47,7 +47,7 @@ fn line_end(text: &[u8]) -> Option<usize>
     ensures { result ≡ position (λ c. c == 10) text.now }
 {
     let count = text.len();
-    if count >= LANES && count <= 2 * LANES {
+    if count >= AT_ONCE && count <= 2 * AT_ONCE {
         near_line_end(text)
     } else {
         find_byte(text, b'\n')
