@@ -403,10 +403,7 @@ fn read_head(line: &[u8]) -> Option<Head<'_>>
 
 /// The packet whose text this is, with the name of its group; `None` where the text is not just that of one. An error
 /// is an allocation failure, and comes only of a text that begins as a packet other than a Prepare.
-pub fn read_packet<'a>(
-    alloc: Global,
-    text: &'a [u8],
-) -> Result<Option<GroupPacket<'a>>, AllocError>
+pub fn read_packet<'a>(alloc: Global, text: &'a [u8]) -> Result<Option<GroupPacket<'a>>, AllocError>
     ensures read { IfOk result (λ read. read ≡ packet_in text.now) }
     ensures limits { IfOk result (λ read. IfSome read (λ p. HasPacketText p.group p.packet)) }
     ensures want { OnErr result (IsTrue (may_take_memory text.now)) }
