@@ -248,7 +248,8 @@ fn schedule_grammar<'a>(alloc: Global) -> Result<clap::Command<'a>, AllocError>
     let through = number_option(
         alloc,
         "through",
-        "The last period to close: 0 to 1199; left out, at least the last in which a reading starts",
+        "The last period to close, 0 to 1199, unless a line `close` closes a later one; \
+        left out, at least the last in which a reading starts",
         0,
         1_199,
     );
