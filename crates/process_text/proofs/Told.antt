@@ -1,9 +1,10 @@
 -- What stands behind a text where a process that stays as it is answers.
-use Rattle.std.proofs.Common.{◌≡◌, ℕ, List, [], ◌∷◌, ◌++◌, ◌+◌, cond, Bor, refl, sym, ap, ap₂, subst, ◌∙◌}
+use Rattle.std.proofs.Common.{◌≡◌, ℕ, List, [], ◌∷◌, ◌++◌, ◌+◌, ◌-◌, length, take, drop, cond, Bor, refl, sym, ap, ap₂, subst, ◌∙◌, arith}
 use Rattle.std.specs.Prelude.{codes, decimal, Option, None, Some, Result, Ok, Err, IfOk, IfSome, MatchOption, OnOk, is_ok}
 use Rattle.std.specs.Option.{option_copied, option_map}
 use Rattle.std.specs.Arc.{arc_value}
-use Rattle.std.proofs.lemmas.List.{append_assoc}
+use Rattle.std.proofs.lemmas.List.{append_assoc, append-nil, length-append, take_all}
+use Rattle.std.proofs.Math.Seq.{drop-append_seam, drop-length, take-append_seam}
 use Rattle.metering_model.specs.Batch.{Batch, batch_text, line_of_fields}
 use Rattle.metering_model.specs.Holding.{Holding, held}
 use Rattle.metering_model.specs.KeptText.{kept_text}
@@ -84,17 +85,6 @@ answer_put name name' added packet before one two three word number number' firs
 -- what stands above a file, of so many lines
 abbrev exported_line : (period lines : ℕ) → List ℕ
 exported_line period lines = with_number (codes "exported period ") period ++ with_number (codes " lines ") lines
-
-pub file_put : (s : world.Snapshot) (old one two none file shown below : List ℕ) (period lines : ℕ)
-    → none ≡ [] → file ≡ none ++ file_of s → shown ≡ file → lines ≡ line_count shown → period ≡ s.period
-    → one ≡ old ++ exported_line period lines → below ≡ file → two ≡ one ++ (10 ∷ below)
-    → two ≡ old ++ reply_text (world.Exported s)
-file_put s old one two none file shown below period lines empty is_file is_shown count of first is_below second =
-    let whole : file ≡ file_of s = is_file ∙ ap (λ t. t ++ file_of s) empty in
-    let counted : lines ≡ line_count (file_of s) = count ∙ ap line_count (is_shown ∙ whole) in
-    below_put old one two (exported_line period lines) below first second
-    ∙ ap (λ t. old ++ (line (exported_line period lines) ++ t)) (is_below ∙ whole)
-    ∙ ap₂ (λ p n. old ++ (line (exported_line p n) ++ file_of s)) of counted
 
 pub batch_put : (old group one two bytes : List ℕ) (b : Batch) (lines : ℕ) → lines ≡ lines_of_batch b → bytes ≡ batch_text b
     → one ≡ old ++ section_line (codes "send " ++ codes "all" ++ codes " ") (1 + lines)
@@ -323,3 +313,41 @@ agent_answered r found asked line below old new before after by is none appends 
     then_ok r _ _ (λ a. subst (λ said. AnswersAgent (agent_request line below) old new said) (sym (a.joined ∙ ap (λ t. t ++ a.said) none))
     (subst (λ q. AnswersAgent q old new a.said) (ap (agent_request_of below) (sym is) ∙ by below) a.answers))
     appends
+
+-- ---- a file that is made where it stays, and whose line is turned to its front
+
+-- where a text is made of three, what a turn of the last to the front of the second makes of it
+turned_is : (old file above : List ℕ) (before count : ℕ) → before ≡ length old → count ≡ length above
+    → take before (old ++ file ++ above)
+    ++ (drop (length (old ++ file ++ above) - before - count) (drop before (old ++ file ++ above))
+    ++ take (length (old ++ file ++ above) - before - count) (drop before (old ++ file ++ above)))
+    ≡ old ++ (above ++ file)
+turned_is old file above before count at many =
+    let whole = old ++ file ++ above in
+    let parts : whole ≡ old ++ (file ++ above) = append_assoc old file above in
+    let size : length whole - before - count ≡ length file = omega (arith, at, many, length-append (old ++ file) above, length-append old file) in
+    let front : take before whole ≡ old = ap₂ take at parts ∙ take-append_seam old (file ++ above) in
+    let behind : drop before whole ≡ file ++ above = ap₂ drop at parts ∙ drop-append_seam old (file ++ above) in
+    ap₂ ◌++◌ front (ap₂ ◌++◌ (ap₂ drop size behind ∙ drop-append_seam file above) (ap₂ take size behind ∙ take-append_seam file above))
+
+pub file_turned : (s : world.Snapshot) (old made shown none above put whole slice turned : List ℕ) (before period lines count size : ℕ)
+    → before ≡ length old → made ≡ old ++ file_of s → shown ≡ made → lines ≡ line_count (take (length shown - before) (drop before shown)) → period ≡ s.period
+    → none ≡ [] → above ≡ none ++ line (exported_line period lines) → put ≡ above → whole ≡ made ++ put → slice ≡ whole → count ≡ length above
+    → turned ≡ take before slice ++ (drop (length slice - before - count) (drop before slice) ++ take (length slice - before - count) (drop before slice))
+    → size ≡ length whole
+    → take size (turned ++ drop (length turned) whole) ≡ old ++ reply_text (world.Exported s)
+file_turned s old made shown none above put whole slice turned before period lines count size at is_made is_shown counted of empty is_above is_put is_whole is_slice many turn sized =
+    let file = file_of s in
+    let rest : drop before shown ≡ file = ap₂ drop at (is_shown ∙ is_made) ∙ drop-append_seam old file in
+    let left : length shown - before ≡ length file = omega (arith, at, ap length (is_shown ∙ is_made), length-append old file) in
+    let lines_are : lines ≡ line_count file = counted ∙ ap line_count (ap₂ take left rest ∙ take_all (length file) file (omega arith)) in
+    let line_is : above ≡ line (exported_line s.period (line_count file)) = is_above ∙ ap (λ t. t ++ line (exported_line period lines)) empty ∙ ap₂ (λ p n. line (exported_line p n)) of lines_are in
+    let all : whole ≡ old ++ file ++ above = is_whole ∙ ap₂ ◌++◌ is_made is_put in
+    let turned_to : turned ≡ old ++ (above ++ file) =
+    turn ∙ ap (λ t. take before t ++ (drop (length t - before - count) (drop before t) ++ take (length t - before - count) (drop before t))) (is_slice ∙ all)
+    ∙ turned_is old file above before count at many in
+    let same_size : length turned ≡ length whole =
+    omega (arith, ap length turned_to, ap length all, length-append old (above ++ file), length-append above file, length-append (old ++ file) above, length-append old file) in
+    let none_left : drop (length turned) whole ≡ [] = ap (λ n. drop n whole) same_size ∙ drop-length whole in
+    ap (λ t. take size (turned ++ t)) none_left ∙ ap (take size) (append-nil turned) ∙ take_all size turned (omega (arith, same_size, sized))
+    ∙ turned_to ∙ ap (λ t. old ++ (t ++ file)) line_is

@@ -1,6 +1,6 @@
 //! Pieces of an answer, written as lines of text.
 
-ghost use Rattle.std.specs.Prelude.{◌≡◌, ◌≢◌, ◌∷◌, [], ◌++◌, None, codes, decimal, OnOk};
+ghost use Rattle.std.specs.Prelude.{◌≡◌, ◌≢◌, ◌+◌, ◌-◌, ◌≤◌, ◌∷◌, [], ◌++◌, None, codes, decimal, drop, length, take, OnOk};
 ghost use Rattle.std.specs.Option.{option_copied, option_map};
 ghost use Rattle.metering_model.specs.Transcript.{if_any, line, reply_text, with_number};
 ghost use Rattle.metering_model.specs.Batch.{line_of_fields};
@@ -193,7 +193,30 @@ fn put_below(text: &mut Vec<u8>, below: &[u8]) -> Result<(), AllocError>
     text.extend_from_slice(below)
 }
 
-/// Appends a file, and above it its period and how many lines it has.
+/// Appends the line above a file: its period, and how many lines it has.
+fn put_above(text: &mut Vec<u8>, period: Period, lines: usize) -> Result<(), AllocError>
+    ensures { OnOk result (text.new.items ≡ text.old.items
+        ++ line (with_number (codes "exported period ") period
+        ++ with_number (codes " lines ") lines)) }
+{
+    let Ok(()) = put_exported(text, period, lines) else {
+        return Err(AllocError);
+    };
+    text.extend_from_slice(b"\n")
+}
+
+/// Turns the last bytes, so many, to the front of what stands from a place on.
+fn turn(text: &mut [u8], place: usize, count: usize)
+    requires { place + count ≤ length text.old }
+    ensures { text.new ≡ take place text.old
+        ++ (drop (length text.old - place - count) (drop place text.old)
+        ++ take (length text.old - place - count) (drop place text.old)) }
+{
+    text[place..].rotate_right(count);
+}
+
+/// Appends a file, and above it its period and how many lines it has. The file is made where it stays, so it stands in memory once:
+/// its line, which is known only then, is put behind it and turned to its front.
 pub(crate) fn put_file(
     alloc: Global,
     text: &mut Vec<u8>,
@@ -202,14 +225,20 @@ pub(crate) fn put_file(
     ensures { OnOk result (text.new.items
         ≡ text.old.items ++ reply_text (world.Exported snapshot.now)) }
 {
-    let mut file = Vec::new(alloc);
-    let Ok(()) = snapshot.put_csv(alloc, &mut file) else {
+    let before = text.len();
+    let Ok(()) = snapshot.put_csv(alloc, text) else {
         return Err(AllocError);
     };
-    let Ok(()) = put_exported(text, snapshot.period(), line_count(&file)) else {
+    let mut above = Vec::new(alloc);
+    let lines = line_count(&text[before..]);
+    let Ok(()) = put_above(&mut above, snapshot.period(), lines) else {
         return Err(AllocError);
     };
-    put_below(text, &file)
+    let Ok(()) = text.extend_from_slice(&above) else {
+        return Err(AllocError);
+    };
+    turn(text.as_mut_slice(), before, above.len());
+    Ok(())
 }
 
 /// Appends a kept text, and above it how many lines it has.
