@@ -1,9 +1,10 @@
 -- What stands behind a text where a process that stays as it is answers.
-use Rattle.std.proofs.Common.{◌≡◌, ℕ, List, [], ◌∷◌, ◌++◌, ◌+◌, ◌-◌, length, take, drop, cond, Bor, refl, sym, ap, ap₂, subst, ◌∙◌, arith}
+use Rattle.std.proofs.Common.{◌≡◌, ◌<◌, ℕ, List, [], ◌∷◌, ◌++◌, ◌+◌, ◌-◌, length, take, drop, cond, Bor, refl, sym, ap, ap₂, subst, ◌∙◌, arith}
 use Rattle.std.specs.Prelude.{codes, decimal, Option, None, Some, Result, Ok, Err, IfOk, IfSome, MatchOption, OnOk, is_ok}
 use Rattle.std.specs.Option.{option_copied, option_map}
 use Rattle.std.specs.Arc.{arc_value}
 use Rattle.std.proofs.lemmas.List.{append_assoc, append-nil, length-append, take_all}
+use Rattle.std.proofs.lemmas.Fmt.{decimal_digit}
 use Rattle.std.proofs.Math.Seq.{drop-append_seam, drop-length, take-append_seam}
 use Rattle.metering_model.specs.Batch.{Batch, batch_text, line_of_fields}
 use Rattle.metering_model.specs.Holding.{Holding, held}
@@ -52,6 +53,13 @@ batch_line before group n =
 pub line_put : (old one word : List ℕ) (n number : ℕ) → n ≡ number → one ≡ old ++ with_number word n → one ++ 10 ∷ [] ≡ old ++ line (with_number word number)
 line_put old one word n number same put =
     ap (λ t. t ++ 10 ∷ []) (put ∙ ap (λ k. old ++ with_number word k) same) ∙ append_assoc old (with_number word number) (10 ∷ [])
+
+-- the same of a number of one digit
+pub digit_put : (old one word : List ℕ) (n : ℕ) → n < 10 → one ≡ old ++ word → one ++ (48 + n) ∷ 10 ∷ [] ≡ old ++ line (with_number word n)
+digit_put old one word n small put =
+    ap (λ t. t ++ (48 + n) ∷ 10 ∷ []) put ∙ append_assoc old word ((48 + n) ∷ 10 ∷ [])
+    ∙ ap (λ ds. old ++ (word ++ (ds ++ 10 ∷ []))) (sym (decimal_digit n small))
+    ∙ ap (λ t. old ++ t) (sym (append_assoc word (decimal n) (10 ∷ [])))
 
 -- what ends a line and stands below it
 pub below_put : (old one two above below : List ℕ) → one ≡ old ++ above → two ≡ one ++ (10 ∷ below) → two ≡ old ++ (line above ++ below)

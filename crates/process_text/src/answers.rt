@@ -38,6 +38,13 @@ pub(crate) fn put_line(text: &mut Vec<u8>, word: &[u8], number: u32) -> Result<(
     ensures { OnOk result
         (text.new.items ≡ text.old.items ++ line (with_number word.now number)) }
 {
+    // Most packets and increments have one line: a digit and the line feed go at once.
+    if number < 10 {
+        let Ok(()) = text.extend_from_slice(word) else {
+            return Err(AllocError);
+        };
+        return text.extend_from_slice(&[b'0' + number as u8, b'\n']);
+    }
     let Ok(()) = put_numbered(text, word, u128::from(number)) else {
         return Err(AllocError);
     };
