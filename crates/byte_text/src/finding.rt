@@ -32,33 +32,56 @@ fn run_before<const LANES: usize>(text: &[u8], byte: u8) -> usize
     lowest_set(found.to_bitmask(), LANES)
 }
 
-/// The index of such a byte where the first bytes have one, so many as are tested at once, and else the library's answer.
+/// The index of the first such byte in a text of so many bytes to twice as many: it is among so many first ones, or so many last.
 #[inline(always)]
 fn find_near<const LANES: usize>(text: &[u8], byte: u8) -> Option<usize>
     requires lanes { LANES ≤ 64 }
     requires from { LANES ≤ length text.now }
+    requires to { length text.now ≤ LANES + LANES }
     ensures { result ≡ position (λ c. c == byte) text.now }
 {
     let run = run_before::<LANES>(text, byte);
     if run < LANES {
         return Some(run);
     }
-    find_far(text, byte)
+    let behind = text.len() - LANES;
+    let run = run_before::<LANES>(&text[behind..], byte);
+    if run < LANES {
+        Some(behind + run)
+    } else {
+        None
+    }
 }
 
-/// The same by the library alone, which costs more where the byte is near.
+/// The same in any text, by the library alone: it goes byte by byte where there are few.
 fn find_far(text: &[u8], byte: u8) -> Option<usize>
     ensures { result ≡ position (λ c. c == byte) text.now }
 {
     memchr(byte, text)
 }
 
+/// The same in a text of 32 bytes or more: what stands near its beginning is found without a call.
+#[inline(always)]
+fn find_long(text: &[u8], byte: u8) -> Option<usize>
+    requires { 32 ≤ length text.now }
+    ensures { result ≡ position (λ c. c == byte) text.now }
+{
+    let run = run_before::<32>(text, byte);
+    if run < 32 {
+        return Some(run);
+    }
+    find_far(text, byte)
+}
+
 /// The index of the first such byte; None where the text has none.
 pub fn find_byte(text: &[u8], byte: u8) -> Option<usize>
     ensures { result ≡ position (λ c. c == byte) text.now }
 {
-    // A field, a word or a schedule's line is short: one test finds where it ends, and needs no call.
+    // A field, a word, a packet or a line of a schedule is short: one or two tests find where it ends, and need no call.
     let count = text.len();
+    if count > 64 {
+        return find_long(text, byte);
+    }
     if count >= 32 {
         return find_near::<32>(text, byte);
     }

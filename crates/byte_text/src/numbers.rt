@@ -16,7 +16,7 @@ pub fn put_number(text: &mut Vec<u8>, number: u128) -> Result<(), AllocError>
         (vec_capacity text.old < vec_len text.old + length (decimal number)) }
     ensures capacity { vec_capacity text.old ≤ vec_capacity text.new }
 {
-    // A node, a period or a count is mostly one digit, and a byte costs less than a buffer.
+    // One digit is a byte, and needs no buffer.
     if number < 10 {
         return match text.push(b'0' + number as u8) {
             Ok(()) => Ok(()),

@@ -34,7 +34,7 @@ fn first_feed(text: &[u8]) -> Option<usize>
 }
 
 /// Reads until the line ends that begins behind the first bytes ahead, so many, and returns how long it is: None where no
-/// more comes, or more than the most bytes are ahead. No byte is searched twice, however often more is read.
+/// more comes, or more than the most bytes are ahead. However often more is read, only what is new is searched.
 fn line_length<S: Source>(
     unread: &mut Unread,
     source: &mut S,

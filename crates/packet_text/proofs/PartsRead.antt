@@ -1,9 +1,10 @@
 -- What a reader of a packet finds, from what the readers of its parts found.
-use Rattle.std.proofs.Common.{◌≡◌, ℕ, Bool, true, false, cond, List, codes, Option, Some, None, Result, Ok, Err, IfErr, MatchResult, refl, sym, ap, ◌∙◌, subst}
+use Rattle.std.proofs.Common.{◌≡◌, ℕ, Bool, true, false, cond, List, ◌∷◌, ◌++◌, take, drop, codes, Option, Some, None, Result, Ok, Err, IfErr, MatchResult, refl, sym, ap, ◌∙◌, subst}
+use Rattle.std.proofs.lemmas.List.{take-append-drop}
 use Rattle.std.specs.Prelude.{◌||◌}
 use Rattle.std.specs.Bool.{IsTrue}
 use Rattle.std.specs.Option.{ok_or, option_map}
-use Rattle.metering_model.specs.BatchReading.{is_same}
+use Rattle.metering_model.specs.BatchReading.{fields_in, is_same}
 use Rattle.metering_model.specs.World.{Packet}
 use Rattle.packet_text.specs.PacketText.{accept_in, accepted_in, decided_in, is_stored_word, line_packet_in, prepare_in, promise_in}
 use Rattle.packet_text.specs.Inner.Unread.{IfNoMemory, IfNoPacket}
@@ -117,3 +118,8 @@ module _ (word : List ℕ) where
 
   pub decided_stored : is_same word (codes "decided") ≡ true → IsTrue (is_stored_word word)
   decided_stored is = or_right (b || p || a || d) e is
+
+-- ---- the beginning of a line
+
+pub behind_p1 : (line : List ℕ) → take 3 line ≡ codes "P1|" → fields_in line ≡ codes "P1" ∷ fields_in (drop 3 line)
+behind_p1 line is = ap fields_in (sym (take-append-drop 3 line)) ∙ ap (λ t. fields_in (t ++ drop 3 line)) is

@@ -2,7 +2,6 @@
 #![tactic(auto)]
 
 pub mod laws;
-mod lines;
 mod numbers;
 mod packets;
 mod reading;

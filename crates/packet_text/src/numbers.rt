@@ -20,7 +20,11 @@ const MOST_AGENTS: u8 = 64;
 fn is_group_byte(byte: u8) -> bool
     ensures { result ≡ is_group_byte byte }
 {
-    matches!(byte, b'0'..=b'9' | b'A'..=b'Z' | b'a'..=b'z' | b'-')
+    // Most bytes of a name are small letters.
+    if byte >= b'a' {
+        return byte <= b'z';
+    }
+    matches!(byte, b'0'..=b'9' | b'A'..=b'Z' | b'-')
 }
 
 /// Whether each byte is one of a group's name.

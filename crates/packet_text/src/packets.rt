@@ -32,7 +32,7 @@ impl<'a> GroupPacket<'a> {
     }
 
     /// The group's name.
-    pub fn group(&self) -> &[u8]
+    pub fn group(&self) -> &'a [u8]
         ensures { result.now ≡ self.now.group }
     {
         self.name

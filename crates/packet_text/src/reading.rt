@@ -1,6 +1,6 @@
 //! Packets, read from their text.
 
-ghost use Rattle.std.specs.Prelude.{◌≡◌, ℕ, ◌≤◌, List, [], ◌∷◌, length, None, Some, Ok, IfErr, IfOk, IfSome, IsTrue, MatchOption, MatchResult, OnErr};
+ghost use Rattle.std.specs.Prelude.{◌≡◌, ℕ, ◌≤◌, List, [], ◌∷◌, length, None, Some, Ok, IfErr, IfOk, IfSome, IsTrue, MatchOption, MatchResult, OnErr, codes};
 ghost use Rattle.std.specs.Arc.{arc_value};
 ghost use Rattle.std.specs.Option.{option_map};
 ghost use Rattle.std.specs.Result.{result_ok};
@@ -13,11 +13,10 @@ ghost use Rattle.packet_text.specs.Inner.Heads.{HasHead, HasNoHead};
 ghost use Rattle.packet_text.specs.Inner.Numbers.{numbers_in, sent_in};
 ghost use Rattle.packet_text.specs.Inner.Unread.{IfNoMemory, IfNoPacket};
 
-use crate::lines::first_line;
 use crate::numbers::{count_fields, is_group, read_ballot, read_lines, read_node, read_period};
 use crate::packets::GroupPacket;
 use batch_view::{Offer, OwnedBatch};
-use byte_text::{is_same, split_at_bar};
+use byte_text::{first_line, is_same, split_at_bar};
 use group_node::Packet;
 use paxos_ballot::{Ballot, Vote};
 use period_cut::{Cut, Period};
@@ -375,6 +374,26 @@ struct Head<'a> {
     numbers: &'a [u8],
 }
 
+/// What stands behind the name of the format and its bar, where a line begins so.
+fn behind_format(line: &[u8]) -> Option<&[u8]>
+    ensures { MatchOption result
+        (HasNoHead (fields_in line.now))
+        (λ rest. fields_in line.now ≡ codes "P1" ∷ fields_in rest.now) }
+{
+    // Each packet has its first bar there, so none looks for it.
+    if line.len() > 3 && is_same(&line[..3], b"P1|") {
+        return Some(&line[3..]);
+    }
+    let Some((version, rest)) = split_at_bar(line) else {
+        return None;
+    };
+    if is_same(version, b"P1") {
+        Some(rest)
+    } else {
+        None
+    }
+}
+
 /// The head of a packet's line, if it is of the format, and the name may be a group's.
 fn read_head(line: &[u8]) -> Option<Head<'_>>
     ensures { MatchOption result
@@ -382,12 +401,9 @@ fn read_head(line: &[u8]) -> Option<Head<'_>>
         (λ head. HasHead (fields_in line.now) head.name.now head.word.now
         (fields_in head.numbers.now)) }
 {
-    let Some((version, rest)) = split_at_bar(line) else {
+    let Some(rest) = behind_format(line) else {
         return None;
     };
-    if !is_same(version, b"P1") {
-        return None;
-    }
     let Some(two) = two_fields(rest) else {
         return None;
     };
