@@ -338,19 +338,21 @@ turned_is old file above before count at many =
     let behind : drop before whole ≡ file ++ above = ap₂ drop at parts ∙ drop-append_seam old (file ++ above) in
     ap₂ ◌++◌ front (ap₂ ◌++◌ (ap₂ drop size behind ∙ drop-append_seam file above) (ap₂ take size behind ∙ take-append_seam file above))
 
-pub file_turned : (s : world.Snapshot) (old made shown none above put whole slice turned : List ℕ) (before period lines count size : ℕ)
+pub file_turned : (s : world.Snapshot) (old made shown whole slice turned : List ℕ) (before period lines end count size : ℕ)
     → before ≡ length old → made ≡ old ++ file_of s → shown ≡ made → lines ≡ line_count (take (length shown - before) (drop before shown)) → period ≡ s.period
-    → none ≡ [] → above ≡ none ++ line (exported_line period lines) → put ≡ above → whole ≡ made ++ put → slice ≡ whole → count ≡ length above
+    → end ≡ length made → whole ≡ made ++ line (exported_line period lines) → slice ≡ whole → count ≡ length whole - end
     → turned ≡ take before slice ++ (drop (length slice - before - count) (drop before slice) ++ take (length slice - before - count) (drop before slice))
     → size ≡ length whole
     → take size (turned ++ drop (length turned) whole) ≡ old ++ reply_text (world.Exported s)
-file_turned s old made shown none above put whole slice turned before period lines count size at is_made is_shown counted of empty is_above is_put is_whole is_slice many turn sized =
+file_turned s old made shown whole slice turned before period lines end count size at is_made is_shown counted of ends is_whole is_slice counts turn sized =
     let file = file_of s in
+    let above = line (exported_line period lines) in
     let rest : drop before shown ≡ file = ap₂ drop at (is_shown ∙ is_made) ∙ drop-append_seam old file in
     let left : length shown - before ≡ length file = omega (arith, at, ap length (is_shown ∙ is_made), length-append old file) in
     let lines_are : lines ≡ line_count file = counted ∙ ap line_count (ap₂ take left rest ∙ take_all (length file) file (omega arith)) in
-    let line_is : above ≡ line (exported_line s.period (line_count file)) = is_above ∙ ap (λ t. t ++ line (exported_line period lines)) empty ∙ ap₂ (λ p n. line (exported_line p n)) of lines_are in
-    let all : whole ≡ old ++ file ++ above = is_whole ∙ ap₂ ◌++◌ is_made is_put in
+    let line_is : above ≡ line (exported_line s.period (line_count file)) = ap₂ (λ p n. line (exported_line p n)) of lines_are in
+    let all : whole ≡ old ++ file ++ above = is_whole ∙ ap (λ t. t ++ above) is_made in
+    let many : count ≡ length above = omega (arith, counts, ends, ap length is_whole, length-append made above) in
     let turned_to : turned ≡ old ++ (above ++ file) =
     turn ∙ ap (λ t. take before t ++ (drop (length t - before - count) (drop before t) ++ take (length t - before - count) (drop before t))) (is_slice ∙ all)
     ∙ turned_is old file above before count at many in

@@ -212,7 +212,7 @@ fn put_above(text: &mut Vec<u8>, period: Period, lines: usize) -> Result<(), All
     text.extend_from_slice(b"\n")
 }
 
-/// Turns the last bytes, so many, to the front of what stands from a place on.
+/// Rotates what stands from a place on, so that its last bytes, so many, come first.
 fn turn(text: &mut [u8], place: usize, count: usize)
     requires { place + count ≤ length text.old }
     ensures { text.new ≡ take place text.old
@@ -223,7 +223,7 @@ fn turn(text: &mut [u8], place: usize, count: usize)
 }
 
 /// Appends a file, and above it its period and how many lines it has. The file is made where it stays, so it stands in memory once:
-/// its line, which is known only then, is put behind it and turned to its front.
+/// its line, which is known only then, is put behind it and rotated to its front.
 pub(crate) fn put_file(
     alloc: Global,
     text: &mut Vec<u8>,
@@ -236,15 +236,13 @@ pub(crate) fn put_file(
     let Ok(()) = snapshot.put_csv(alloc, text) else {
         return Err(AllocError);
     };
-    let mut above = Vec::new(alloc);
     let lines = line_count(&text[before..]);
-    let Ok(()) = put_above(&mut above, snapshot.period(), lines) else {
+    let end = text.len();
+    let Ok(()) = put_above(text, snapshot.period(), lines) else {
         return Err(AllocError);
     };
-    let Ok(()) = text.extend_from_slice(&above) else {
-        return Err(AllocError);
-    };
-    turn(text.as_mut_slice(), before, above.len());
+    let count = text.len() - end;
+    turn(text.as_mut_slice(), before, count);
     Ok(())
 }
 

@@ -7,7 +7,7 @@ ghost use Rattle.group_node.specs.Packets.{packet_of};
 ghost use Rattle.group_process.specs.Added.{increment_after};
 ghost use Rattle.group_process.specs.Selves.{kept_of_node};
 ghost use Rattle.packet_text.specs.PacketText.{packet_in};
-ghost use Rattle.process_text.specs.Answers.{AnswersNode, addressee, answer_text, sent_text};
+ghost use Rattle.process_text.specs.Answers.{AnswersNode, added_text, addressee, answer_text, sent_text};
 ghost use Rattle.process_text.specs.Requests.{AsksNode, node_request, packet_request};
 ghost use Rattle.process_text.specs.Inner.Written.{AppendsNode};
 
@@ -17,7 +17,7 @@ use crate::answers::{
 };
 use crate::requests::{NodeRequest, node_request};
 use group_node::Packet;
-use group_process::{Begun, Group, NodeProcess, Taken};
+use group_process::{Added, Begun, Group, NodeProcess, Taken};
 use packet_text::{GroupPacket, read_packet};
 use std::alloc::{AllocError, Global};
 
@@ -41,6 +41,17 @@ fn put_sends(
     }
 }
 
+/// Appends what a step of a node adds to its log: most add nothing.
+fn put_added_by(text: &mut Vec<u8>, node: &NodeProcess, added: Added) -> Result<(), AllocError>
+    ensures { OnOk result (text.new.items ≡ text.old.items
+        ++ added_text (increment_after added (kept_of_node node.now))) }
+{
+    match added {
+        Added::Nothing => Ok(()),
+        _ => put_added(text, node.increment(added)),
+    }
+}
+
 /// Appends what came of a packet that a node took.
 fn put_taken(
     text: &mut Vec<u8>,
@@ -56,7 +67,7 @@ fn put_taken(
           sends = option_map packet_of taken.now.sends;
         })) }
 {
-    let Ok(()) = put_added(text, node.increment(taken.added)) else {
+    let Ok(()) = put_added_by(text, node, taken.added) else {
         return Err(AllocError);
     };
     let Ok(()) = put_sends(text, node.group(), packet, &taken.sends) else {
