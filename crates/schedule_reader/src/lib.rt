@@ -9,4 +9,4 @@ mod schedules;
 
 pub use events::{Planned, event_in};
 pub use packed::Events;
-pub use schedules::{Preamble, Schedule};
+pub use schedules::{Preamble, Schedule, group_in};

@@ -92,9 +92,10 @@ fn nodes_line<'a>(unread: &Unread<'a>) -> Result<(u32, u32, Unread<'a>), Schedul
     }
 }
 
-/// How many voters, observers and agents a text tells, and what is left after the lines that say so.
+/// How many voters, observers and agents a text tells above all else of its schedule, and what is left after the lines that say so.
+/// Refused is the first fault of these by line. Never OutOfMemory.
 #[tactic(auto, unfolding(crate::specs::Schedules::group_in))]
-fn group_in<'a>(text: &'a [u8]) -> Result<(u8, u8, u8, Unread<'a>), ScheduleFault>
+pub fn group_in<'a>(text: &'a [u8]) -> Result<(u8, u8, u8, Unread<'a>), ScheduleFault>
     ensures group { MatchResult result (λ r. group_in text.now ≡ Ok (r.0, r.1, r.2, r.3))
         (λ fault. group_in text.now ≡ Err fault) }
     ensures want { IfErr result (λ fault. fault ≢ ScheduleFault.OutOfMemory) }
@@ -122,7 +123,7 @@ pub struct Preamble<'a> {
 }
 
 impl<'a> Preamble<'a> {
-    /// Drops what stands above. A crate above calls it in place of `drop`, for the prover's time alone (docs/DECISIONS.md).
+    /// Drops the sheet and the issuer. A crate above calls it in place of `drop`, for the prover's time alone (docs/DECISIONS.md).
     pub fn release(self) {
         let Preamble { sheet, issuer, .. } = self;
         sheet.release();
