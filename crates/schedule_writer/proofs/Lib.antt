@@ -8,6 +8,7 @@ pub mod CheckLaws
 pub mod SaidLaws
 pub mod CountedLaws
 pub mod WarningLaws
+pub mod AboveLaws
 pub mod PlanLaws
 pub mod Certificates
 pub mod ScheduleLaws

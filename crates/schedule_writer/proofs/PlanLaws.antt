@@ -1,46 +1,50 @@
 -- What is lent of a plan, and what one event more has done.
-use Rattle.std.proofs.Common.{◌≡◌, ◌<◌, ◌≤◌, ◌&&◌, ℕ, suc, Bool, true, false, cond, nat_eq, nat_lt, List, [], ◌∷◌, length, map, get_or, Option, Some, None, Result, Ok, refl, sym, ap, ap₂, ◌∙◌, arith, lt-ltb, subst}
+use Rattle.std.proofs.Common.{◌≡◌, ◌<◌, ◌≤◌, ◌&&◌, ℕ, suc, Bool, true, false, cond, nat_eq, nat_lt, List, [], ◌∷◌, length, map, get_or, Option, Some, None, Result, Ok, Err, refl, sym, ap, ap₂, ◌∙◌, arith, lt-ltb, subst}
 use Rattle.std.specs.Prelude.{◌↔◌, IfOk, IsTrue, not, nat_le}
 use Rattle.std.specs.Option.{option_and_then, option_map_or}
 use Rattle.std.proofs.lemmas.Bool.{and_from, eq-eqb}
 use Rattle.std.proofs.lemmas.List.{get_or-map, length-map}
-use Rattle.metering_model.specs.Batch.{is_empty}
-use Rattle.metering_model.specs.BatchReading.{is_same}
+use Rattle.std.specs.Arc.{arc_value}
+use Rattle.metering_model.specs.Batch.{Batch, is_empty}
+use Rattle.metering_model.specs.BatchReading.{batch_in, is_same}
 use Rattle.metering_model.specs.FirstFailure.{◌>>=◌}
 use Rattle.metering_model.specs.Holding.{Holding}
 use Rattle.metering_model.specs.Schedule.{Planned, event_of}
 use Rattle.metering_model.specs.Sheet.{Sheet, Issuer}
 use Rattle.metering_model.specs.Step.{step}
-use Rattle.metering_model.specs.World.{World, Event, Reply, opening}
+use Rattle.metering_model.specs.World.{World, Event, Journal, Good, Bad, Reply, offer_of, opening}
+use Rattle.metering_model.specs.declared.BatchFault.{BatchFault}
 use Rattle.metering_model.proofs.FieldLaws.{same_read}
 use Rattle.input_sections.specs.declared.faults.ScheduleFault.{ScheduleFault}
 use Rattle.input_sections.specs.Sections.{Unread, left}
 use Rattle.group_events.specs.Replies.{is_refused}
-use Rattle.schedule_reader.specs.declared.events.Planned.{Planned as LentEvent}
-use Rattle.schedule_reader.specs.Events.{EndsAt, HasWholeLines, lines_of, planned_of}
 use Rattle.schedule_reader.specs.Schedules.{Preamble, event_in, events_in, preamble_in}
-use Rattle.schedule_reader.proofs.PackedLaws.{event_ends}
 use Rattle.schedule_reader.proofs.PreambleLaws.{taken_behind}
 use Rattle.schedule_writer.specs.Schedules.{learned_in}
 use Rattle.schedule_writer.specs.declared.faults.Stop.{Stop}
-use Rattle.schedule_writer.specs.declared.inputs.Offered.{Offered as LentBatch}
+use Rattle.schedule_writer.specs.declared.judging.Taken.{Taken}
 use Rattle.schedule_writer.specs.declared.plans.Plan.{Plan as LentPlan}
 use Rattle.schedule_writer.specs.declared.plans.Seen.{Seen}
 use Rattle.schedule_writer.specs.Inner.Certified.{IsCertified}
-use Rattle.schedule_writer.specs.Inner.Plans.{IsDone, IsDoneNext, Plan, all_seen, behind, behind_all, behind_taken, due_for, is_next, journals_behind, nothing_seen, offered_of, plan_of}
+use Rattle.schedule_writer.specs.Inner.Plans.{IsDone, IsDoneNext, Plan, all_seen, behind, behind_all, behind_taken, due_for, is_next, journals_behind, nothing_seen, taken_of, plan_of}
 use Rattle.schedule_writer.proofs.JournalLaws.{journals_after}
 
-pub next_is : (p : LentPlan) (seen : Seen) (text : List ℕ) (d : LentBatch) → seen.journaled < length p.batches.now
-    → is_same (get_or p.batches.now seen.journaled d).text.now text ≡ is_next (plan_of p) seen text
+pub next_is : (p : LentPlan) (seen : Seen) (text : List ℕ) (d : Taken) → seen.journaled < length p.batches.now
+    → is_same (arc_value (get_or p.batches.now seen.journaled d).batch) text ≡ is_next (plan_of p) seen text
 next_is p seen text d within =
     let bs = p.batches.now in
-    let lengths : length (plan_of p).batches ≡ length bs = length-map (map offered_of bs) (λ b. b.text) ∙ length-map bs offered_of in
+    let lengths : length (plan_of p).batches ≡ length bs = length-map (map taken_of bs) (λ b. b.text) ∙ length-map bs taken_of in
     let test : nat_lt seen.journaled (length (plan_of p).batches) ≡ true = lt-ltb seen.journaled (length (plan_of p).batches) (omega arith) in
-    let half : seen.journaled < length (map offered_of bs) = (let h : length (map offered_of bs) ≡ length bs = length-map bs offered_of in omega arith) in
-    let read : get_or (plan_of p).batches seen.journaled [] ≡ (get_or bs seen.journaled d).text.now
-    = get_or-map (λ b. b.text) (map offered_of bs) seen.journaled (offered_of d) [] half
-    ∙ ap (λ b. b.text) (get_or-map offered_of bs seen.journaled d (offered_of d) within) in
+    let half : seen.journaled < length (map taken_of bs) = (let h : length (map taken_of bs) ≡ length bs = length-map bs taken_of in omega arith) in
+    let read : get_or (plan_of p).batches seen.journaled [] ≡ arc_value (get_or bs seen.journaled d).batch
+    = get_or-map (λ b. b.text) (map taken_of bs) seen.journaled (taken_of d) [] half
+    ∙ ap (λ b. b.text) (get_or-map taken_of bs seen.journaled d (taken_of d) within) in
     sym (ap (λ t. t && is_same (get_or (plan_of p).batches seen.journaled []) text) test ∙ ap (λ t. is_same t text) read)
+
+-- bytes that were read as a batch are what is offered by the same text
+pub offered_is : (bytes text : List ℕ) (b : Batch) → bytes ≡ text → batch_in text ≡ Ok b → Journal (Good bytes) ≡ Journal (offer_of text)
+offered_is bytes text b same is =
+    ap (λ t. Journal (Good t)) same ∙ ap (λ (r : Result Batch BatchFault). Journal (elim r [ Ok x ↦ Good text | Err fault ↦ Bad fault ])) (sym is)
 
 same_itself : (t : List ℕ) → is_same t t ≡ true
 same_itself [] = refl
@@ -126,12 +130,6 @@ module _ (plan : Plan) where
   pub done_none : (seen : Seen) (w : World) (most : ℕ) (u : Unread) → most ≡ 0 → IsDone plan seen seen w (events_in most u)
   unfolding events_in behind_all
   done_none seen w most u none = record { events = []; is_read = ap (λ n. events_in n u) none; done = refl }
-
--- where the lines of an event that was read stand
-pub lines_there : (text : List ℕ) (here rest : Unread) (e : LentEvent) (end : ℕ) → here.text ≡ text → here.from ≤ length text → end ≡ rest.from → end ≤ length rest.text
-    → rest.text ≡ here.text → HasWholeLines e → event_in here ≡ Ok (planned_of e, rest) → EndsAt text end (lines_of e)
-lines_there text here rest e end same inside place within next whole is =
-    (event_ends text here rest e end place same inside next (subst (λ n. n ≤ length rest.text) place within) whole is).1
 
 -- ---- the whole
 

@@ -1,5 +1,6 @@
 -- A text that stood the test is a schedule for the input.
 use Rattle.std.proofs.Common.{◌≡◌, ◌≢◌, ◌≤◌, ℕ, ◌+◌, ◌-◌, max, All, List, length, take, drop, map, Option, Some, None, Ok, Err, inl, inr, refl, sym, ap, subst, ◌∙◌, arith}
+use Rattle.std.specs.Arc.{arc_value}
 use Rattle.std.specs.Option.{unwrap_or}
 use Rattle.std.proofs.Math.Seq.{take-length}
 use Rattle.std.proofs.lemmas.List.{length-drop, length-map}
@@ -22,7 +23,7 @@ use Rattle.schedule_writer.specs.Refusals.{IsJournaled, IsRefused, IsRefusedAt, 
 use Rattle.schedule_writer.specs.Schedules.{ClosesEach, IsExported, IsScheduleOf, journals_of}
 use Rattle.schedule_writer.specs.Inner.Certified.{IsCertified}
 use Rattle.schedule_writer.specs.Inner.Judged.{IsAskedBy, IsFaultOf, IsReadInput, IsRefusedAmong, IsRefusedOr, IsUncertain}
-use Rattle.schedule_writer.specs.Inner.Plans.{Plan, all_seen, behind_all, due_for, nothing_seen, offered_of, plan_of}
+use Rattle.schedule_writer.specs.Inner.Plans.{Plan, all_seen, behind_all, due_for, nothing_seen, taken_of, plan_of}
 use Rattle.schedule_writer.proofs.Certificates.{IsGood, IsShown, all_exports, all_good, ballots, closed, due, exports, good_is, journals, learned, needed}
 use Rattle.schedule_writer.proofs.KnownLaws.{no_line}
 
@@ -78,20 +79,20 @@ pub is_asked_for : (through : Option ℕ) (base last : ℕ) (bs : List Offered) 
 is_asked_for (Some p) base last bs is = refl
 is_asked_for None base last bs is = is
 
-pub scheduled : (request : Request) (input text : List ℕ) (plan : LentPlan) (issuer : Issuer) (agents last asked : ℕ)
-    → IsReadInput input plan.sheet.now issuer (map offered_of plan.batches.now) plan.closes.now
-    → IsAskedBy plan.sheet.now.base (map offered_of plan.batches.now) agents last
+pub scheduled : (request : Request) (input text : List ℕ) (plan : LentPlan) (issuer : Issuer) (last asked : ℕ)
+    → IsReadInput input (arc_value plan.sheet.now) issuer (map taken_of plan.batches.now) plan.closes.now
+    → IsAskedBy (arc_value plan.sheet.now).base (map taken_of plan.batches.now) plan.agents last
     → plan.voters ≡ request.nodes → plan.observers ≡ request.observers → plan.nodes ≡ request.nodes + request.observers
     → asked ≡ unwrap_or request.through last
     → plan.last ≡ max asked (least_last request.through (length plan.batches.now) plan.closes.now)
-    → IsCertified (plan_of plan) plan.voters plan.observers agents plan.sheet.now issuer text
+    → IsCertified (plan_of plan) plan.voters plan.observers plan.agents (arc_value plan.sheet.now) issuer text
     → IsScheduleOf request (Some input) input text
-scheduled request input text plan issuer agents last asked read by voters observers nodes is_asked is certified =
+scheduled request input text plan issuer last asked read by voters observers nodes is_asked is certified =
     let given = read.given in
     let items = items_of input given in
-    let bs = map offered_of plan.batches.now in
-    let wanted : IsAskedFor request.through plan.sheet.now.base bs asked
-    = subst (IsAskedFor request.through plan.sheet.now.base bs) (sym is_asked) (is_asked_for request.through plan.sheet.now.base last bs by.is_last) in
+    let bs = map taken_of plan.batches.now in
+    let wanted : IsAskedFor request.through (arc_value plan.sheet.now).base bs asked
+    = subst (IsAskedFor request.through (arc_value plan.sheet.now).base bs) (sym is_asked) (is_asked_for request.through (arc_value plan.sheet.now).base last bs by.is_last) in
     record {
       is_input = refl;
       given = given;
@@ -107,10 +108,10 @@ scheduled request input text plan issuer agents last asked read by voters observ
       through = record {
         asked = asked;
         is_asked = subst (λ (s : Sheet). IsAskedFor request.through s.base (batches_of items) asked) (sym read.by_sheet)
-            (subst (λ xs. IsAskedFor request.through plan.sheet.now.base xs asked) read.batches wanted);
+            (subst (λ xs. IsAskedFor request.through (arc_value plan.sheet.now).base xs asked) read.batches wanted);
         is_last =
             is ∙ (ap (λ cs. max asked (least_last request.through (length plan.batches.now) cs)) read.are_closes
-            ∙ ap (λ n. max asked (least_last request.through n (closes_of items))) (sym (length-map plan.batches.now offered_of) ∙ ap length read.batches));
+            ∙ ap (λ n. max asked (least_last request.through n (closes_of items))) (sym (length-map plan.batches.now taken_of) ∙ ap length read.batches));
       };
       closes = closes_each (plan_of plan) certified.schedule items plan.last
           (nodes ∙ (ap (λ n. n + request.observers) (sym (certified.group.has_voters ∙ voters))

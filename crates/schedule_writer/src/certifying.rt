@@ -1,27 +1,27 @@
-//! Whether a text is a schedule that does what was planned. It is read as `play` reads it, and its events are done as they are read;
-//! the files are not made.
+//! Whether a text is a schedule that does what was planned. It is read as `play` reads it, and its events are done as they are read; the
+//! input's sheet and its batches are known by their bytes and not read again, and the files are not made.
 
-ghost use Rattle.std.specs.Prelude.{◌≡◌, ◌+◌, ◌≤◌, [], IfOk, IsTrue, Ok, OnOk, Some, length};
+ghost use Rattle.std.specs.Prelude.{◌≡◌, IfOk, OnOk, Some};
 ghost use Rattle.std.specs.Arc.{arc_value};
-ghost use Rattle.metering_model.specs.Limits.{last_period, most_agents, most_nodes};
 ghost use Rattle.metering_model.specs.Schedule.{event_of};
 ghost use Rattle.metering_model.specs.Step.{step};
 ghost use Rattle.metering_model.specs.World.{opening};
 ghost use Rattle.group_events.specs.Events.{event_of as offered_event};
-ghost use Rattle.group_events.specs.Replies.{reply_of};
 ghost use Rattle.schedule_reader.specs.Events.{HasWholeLines, planned_of};
 ghost use Rattle.schedule_reader.specs.Schedules.{events_in};
 ghost use Rattle.schedule_writer.specs.Inner.Certified.{IsCertified};
-ghost use Rattle.schedule_writer.specs.Inner.Plans.{IsDone, IsDoneNext, IsWithinGroup, all_seen, behind, journals_behind, nothing_seen, plan_of};
+ghost use Rattle.schedule_writer.specs.Inner.Walks.{HasSheet};
+ghost use Rattle.schedule_writer.specs.Inner.Plans.{ComesNext, IsDone, IsDoneNext, IsPlan, behind, journals_behind, nothing_seen, plan_of};
 
+use crate::above::{events_below, world_of};
 use crate::faults::Stop;
 use crate::plans::{Plan, Seen};
 use batch_store::Store;
 use group_events::{Event, Offer};
-use input_sections::{ScheduleFault, Unread};
+use input_sections::Unread;
 use price_sheet::Issuer;
-use schedule_player::{Reply, World, event_within, opening_world};
-use schedule_reader::{Planned, Preamble, event_in};
+use schedule_player::{World, event_of};
+use schedule_reader::{Planned, event_in};
 use std::alloc::Global;
 use std::sync::Arc;
 
@@ -56,10 +56,11 @@ fn do_made(
     planned: &Planned<'_>,
     event: &Event,
 ) -> Result<Seen, Stop>
-    requires plan { IsWithinGroup plan.now }
+    requires plan { IsPlan plan.now }
     requires whole { HasWholeLines planned.now }
     requires same { journals.old.batches ≡ world.old.journals }
     requires event { offered_event event.now ≡ event_of (planned_of planned.now) }
+    requires next { ComesNext (plan_of plan.now) seen (planned_of planned.now) }
     ensures seen { IfOk result
         (λ next. behind (plan_of plan.now) seen world.old.journals
         (step world.old (event_of (planned_of planned.now))).0 (planned_of planned.now)
@@ -84,6 +85,29 @@ fn do_made(
     }
 }
 
+/// The event that is planned. A batch that comes next is not read again, and one that does not is none of what was planned.
+fn event_for(
+    alloc: Global,
+    plan: &Plan<'_>,
+    seen: Seen,
+    planned: &Planned<'_>,
+) -> Result<Event, Stop>
+    requires plan { IsPlan plan.now }
+    requires whole { HasWholeLines planned.now }
+    ensures event { IfOk result
+        (λ event. offered_event event ≡ event_of (planned_of planned.now)) }
+    ensures next { IfOk result
+        (λ _. ComesNext (plan_of plan.now) seen (planned_of planned.now)) }
+{
+    if let Planned::Journal(lines) = planned {
+        return plan.journal(seen, lines);
+    }
+    match event_of(alloc, planned) {
+        Ok(event) => Ok(event),
+        Err(_) => Err(Stop::OutOfMemory),
+    }
+}
+
 /// Reads the event that stands next in the text, does it, and answers what was done behind it, and what is left of the text.
 fn do_next<'a>(
     alloc: Global,
@@ -91,26 +115,21 @@ fn do_next<'a>(
     world: &mut World,
     journals: &mut Store,
     seen: Seen,
-    text: &Arc<Vec<u8>>,
     here: &Unread<'a>,
 ) -> Result<(Seen, Unread<'a>), Stop>
-    requires plan { IsWithinGroup plan.now }
-    requires text { here.now.text ≡ (arc_value text.now).items }
-    requires within { here.now.from ≤ length (arc_value text.now).items }
+    requires plan { IsPlan plan.now }
     requires same { journals.old.batches ≡ world.old.journals }
     ensures done { IfOk result (λ next. IsDoneNext
         (plan_of plan.now) seen next.0 world.old world.new here.now next.1) }
-    ensures left { IfOk result (λ next. (next.1.text ≡ (arc_value text.now).items)
-        × (next.1.from ≤ length (arc_value text.now).items)) }
     ensures journals { OnOk result (journals.new.batches ≡ world.new.journals) }
 {
     let Ok(parts) = event_in(here) else {
         return Err(Stop::NotClosed);
     };
     let (planned, rest) = parts;
-    let from = planned.journal_from(rest.from());
-    let Ok(event) = event_within(alloc, text, &planned, from) else {
-        return Err(Stop::OutOfMemory);
+    let event = match event_for(alloc, plan, seen, &planned) {
+        Ok(event) => event,
+        Err(stop) => return Err(stop),
     };
     let next = do_made(alloc, plan, world, journals, seen, &planned, &event);
     // Dropped by a call for the prover's time alone (docs/DECISIONS.md).
@@ -128,12 +147,10 @@ fn do_events(
     plan: &Plan<'_>,
     world: &mut World,
     journals: &mut Store,
-    text: &Arc<Vec<u8>>,
     unread: Unread<'_>,
     most: usize,
 ) -> Result<Seen, Stop>
-    requires plan { IsWithinGroup plan.now }
-    requires text { unread.text ≡ (arc_value text.now).items }
+    requires plan { IsPlan plan.now }
     requires same { journals.old.batches ≡ world.old.journals }
     ensures { IfOk result
         (λ seen. IsDone (plan_of plan.now) nothing_seen seen world.old
@@ -150,7 +167,7 @@ fn do_events(
         if here.left().is_empty() {
             return Ok(seen);
         }
-        match do_next(alloc, plan, world, journals, seen, text, &here) {
+        match do_next(alloc, plan, world, journals, seen, &here) {
             Ok((next, rest)) => {
                 seen = next;
                 here = rest;
@@ -161,49 +178,26 @@ fn do_events(
     Ok(seen)
 }
 
-/// Whether what stands above the events of a text is of that group, by this sheet and this issuer.
-fn is_planned(plan: &Plan<'_>, agents: u8, issuer: &Issuer, above: &Preamble<'_>) -> bool
-    ensures { IsTrue result → (above.now.voters ≡ plan.now.voters)
-        × (above.now.observers ≡ plan.now.observers) × (above.now.agents ≡ agents)
-        × (above.now.sheet ≡ plan.now.sheet.now) × (above.now.issuer ≡ issuer.now) }
-{
-    let is_group = above.voters == plan.voters
-        && above.observers == plan.observers
-        && above.agents == agents;
-    is_group && above.sheet.same(plan.sheet) && above.issuer.same(issuer)
-}
-
-/// Does the events of a text in a group of what stands above them, and answers what was done behind them.
+/// Does the events of a text in the group that was planned, by an issuer, and answers what was done behind them.
 fn do_behind(
     alloc: Global,
     plan: &Plan<'_>,
-    text: &Arc<Vec<u8>>,
-    above: Preamble<'_>,
+    issuer: &Arc<Issuer>,
+    events: Unread<'_>,
     most: usize,
 ) -> Result<Seen, Stop>
-    requires plan { IsWithinGroup plan.now }
-    requires text { above.rest.text ≡ (arc_value text.now).items }
-    requires nodes { (1 ≤ above.voters) × (above.voters + above.observers ≤ most_nodes) }
-    requires agents { (1 ≤ above.agents) × (above.agents ≤ most_agents) }
+    requires { IsPlan plan.now }
     ensures { IfOk result (λ seen. IsDone (plan_of plan.now) nothing_seen seen
-        (opening above.entry.voters above.entry.observers above.entry.agents
-        above.entry.sheet above.entry.issuer)
-        (events_in most above.entry.rest)) }
+        (opening plan.now.voters plan.now.observers plan.now.agents
+        (arc_value plan.now.sheet.now) (arc_value issuer.now)) (events_in most events.entry)) }
 {
-    let Preamble {
-        voters,
-        observers,
-        agents,
-        sheet,
-        issuer,
-        rest,
-    } = above;
-    let Ok(mut world) = opening_world(alloc, voters, observers, agents, sheet, issuer) else {
+    let (voters, observers, agents) = (plan.voters, plan.observers, plan.agents);
+    let Ok(mut world) = world_of(alloc, voters, observers, agents, plan.sheet, issuer) else {
         return Err(Stop::OutOfMemory);
     };
     match Store::new(alloc, agents) {
         Ok(mut journals) => {
-            let seen = do_events(alloc, plan, &mut world, &mut journals, text, rest, most);
+            let seen = do_events(alloc, plan, &mut world, &mut journals, events, most);
             // Dropped by a call for the prover's time alone (docs/DECISIONS.md), as in the other arm.
             world.release();
             seen
@@ -215,35 +209,24 @@ fn do_behind(
     }
 }
 
-/// Whether what stands above the events of a text is planned, and the events do all that was planned.
-fn certify_below(
+/// Whether a text is a schedule that does what was planned, by the sheet of the input and this issuer.
+pub(crate) fn certify(
     alloc: Global,
     plan: &Plan<'_>,
-    agents: u8,
-    issuer: &Issuer,
-    text: &Arc<Vec<u8>>,
-    above: Preamble<'_>,
-    most: usize,
+    input: &[u8],
+    issuer: &Arc<Issuer>,
+    text: &[u8],
 ) -> Result<(), Stop>
-    requires plan { IsWithinGroup plan.now }
-    requires text { above.rest.text ≡ (arc_value text.now).items }
-    requires nodes { (1 ≤ above.voters) × (above.voters + above.observers ≤ most_nodes) }
-    requires agents { (1 ≤ above.agents) × (above.agents ≤ most_agents) }
-    ensures planned { OnOk result ((above.entry.voters ≡ plan.now.voters)
-        × (above.entry.observers ≡ plan.now.observers) × (above.entry.agents ≡ agents)
-        × (above.entry.sheet ≡ plan.now.sheet.now) × (above.entry.issuer ≡ issuer.now)) }
-    ensures done { OnOk result
-        (IsDone (plan_of plan.now) nothing_seen (all_seen (plan_of plan.now))
-        (opening above.entry.voters above.entry.observers above.entry.agents
-        above.entry.sheet above.entry.issuer)
-        (events_in most above.entry.rest)) }
+    requires plan { IsPlan plan.now }
+    requires input { HasSheet input.now (arc_value plan.now.sheet.now) }
+    ensures { OnOk result (IsCertified (plan_of plan.now) plan.now.voters plan.now.observers
+        plan.now.agents (arc_value plan.now.sheet.now) (arc_value issuer.now) text.now) }
 {
-    if !is_planned(plan, agents, issuer, &above) {
-        // Dropped by a call for the prover's time alone (docs/DECISIONS.md).
-        above.release();
-        return Err(Stop::NotClosed);
-    }
-    match do_behind(alloc, plan, text, above, most) {
+    let events = match events_below(alloc, plan, input, issuer, text) {
+        Ok(events) => events,
+        Err(stop) => return Err(stop),
+    };
+    match do_behind(alloc, plan, issuer, events, text.len()) {
         Ok(seen) => {
             if plan.is_done(seen) {
                 Ok(())
@@ -252,30 +235,5 @@ fn certify_below(
             }
         }
         Err(stop) => Err(stop),
-    }
-}
-
-/// Whether a text, which is shared, is a schedule that does what was planned. Its batches are not copied.
-pub(crate) fn certify(
-    alloc: Global,
-    plan: &Plan<'_>,
-    agents: u8,
-    issuer: &Issuer,
-    text: &Arc<Vec<u8>>,
-    lent: &[u8],
-) -> Result<(), Stop>
-    requires lent { lent.now ≡ (arc_value text.now).items }
-    requires voters { 1 ≤ plan.now.voters }
-    requires nodes { (plan.now.nodes ≡ plan.now.voters + plan.now.observers)
-        × (plan.now.nodes ≤ most_nodes) }
-    requires last { plan.now.last ≤ last_period }
-    requires agents { (1 ≤ agents) × (agents ≤ most_agents) }
-    ensures { OnOk result (IsCertified (plan_of plan.now)
-        plan.now.voters plan.now.observers agents plan.now.sheet.now issuer.now lent.now) }
-{
-    match Preamble::read(alloc, lent) {
-        Ok(above) => certify_below(alloc, plan, agents, issuer, text, above, lent.len()),
-        Err(ScheduleFault::OutOfMemory) => Err(Stop::OutOfMemory),
-        Err(_) => Err(Stop::NotClosed),
     }
 }

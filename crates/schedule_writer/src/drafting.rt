@@ -3,15 +3,13 @@
 ghost use Rattle.std.specs.Prelude.{◌≤◌};
 ghost use Rattle.metering_model.specs.Limits.{last_period};
 
+use crate::above::sheet_lines;
 use crate::drafts::Draft;
 use crate::faults::Stop;
 use crate::plans::Plan;
 use byte_text::line_count;
-use input_sections::{ScheduleCode, Unread, read_section};
+use input_sections::Unread;
 use std::alloc::Global;
-
-/// A sheet has no more lines than this.
-const MOST_SHEET_LINES: u32 = 200_000;
 
 /// A sheet without rows, as it is taken where the input has none.
 const EMPTY_SHEET: &[u8] = b"sheet 1\nbase = \"2025-01\"\n";
@@ -28,9 +26,9 @@ fn sheet_end(input: &[u8]) -> Option<usize> {
     if !unread.begins_with(b"sheet ") {
         return Some(0);
     }
-    match read_section(&unread, ScheduleCode::Sheet, b"sheet ", MOST_SHEET_LINES) {
-        Ok(section) => Some(section.rest.from()),
-        Err(_) => None,
+    match sheet_lines(&unread) {
+        Some(section) => Some(section.rest.from()),
+        None => None,
     }
 }
 
@@ -47,7 +45,7 @@ fn put_section(draft: &mut Draft, input: &[u8], from: usize, to: usize, else_tak
 }
 
 /// Appends what stands above the events: the head, the lines of the nodes and the agents, and both sections of the input.
-fn put_above(draft: &mut Draft, plan: &Plan<'_>, agents: u8, input: &[u8], batch_from: usize) {
+fn put_above(draft: &mut Draft, plan: &Plan<'_>, input: &[u8], batch_from: usize) {
     draft.put(b"SCHEDULE 1\n");
     let observers = if plan.observers > 0 {
         Some(u32::from(plan.observers))
@@ -60,7 +58,7 @@ fn put_above(draft: &mut Draft, plan: &Plan<'_>, agents: u8, input: &[u8], batch
         b" observers ",
         observers,
     );
-    draft.put_line(b"agents ", u128::from(agents), b"", None);
+    draft.put_line(b"agents ", u128::from(plan.agents), b"", None);
     match sheet_end(input) {
         Some(end) => {
             put_section(draft, input, 0, end, EMPTY_SHEET);
@@ -115,11 +113,11 @@ fn put_those(draft: &mut Draft, plan: &Plan<'_>, from: usize, to: usize) {
         draft.give_up(Stop::NotClosed);
         return;
     };
-    for offered in batches {
+    for taken in batches {
         if draft.has_stopped() {
             return;
         }
-        put_batch(draft, plan.nodes, offered.text);
+        put_batch(draft, plan.nodes, taken.batch.bytes());
     }
 }
 
@@ -141,14 +139,13 @@ fn put_events(draft: &mut Draft, plan: &Plan<'_>)
 pub(crate) fn schedule_for(
     alloc: Global,
     plan: &Plan<'_>,
-    agents: u8,
     input: &[u8],
     batch_from: usize,
 ) -> Result<Vec<u8>, Stop>
     requires { plan.now.last ≤ last_period }
 {
     let mut draft = Draft::new(alloc);
-    put_above(&mut draft, plan, agents, input, batch_from);
+    put_above(&mut draft, plan, input, batch_from);
     put_events(&mut draft, plan);
     draft.finish()
 }

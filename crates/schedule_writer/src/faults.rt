@@ -1,5 +1,6 @@
 //! Why no schedule was written, or not all of one.
 
+use input_sections::ScheduleFault;
 use thiserror::Error;
 
 /// Why no schedule was written, or not all of one.
@@ -33,6 +34,16 @@ pub(crate) enum Stop {
     TooLong,
     NotClosed,
     OutOfMemory,
+}
+
+impl Stop {
+    /// Why a section that was written is not read again.
+    pub(crate) fn of_section(fault: ScheduleFault) -> Stop {
+        match fault {
+            ScheduleFault::OutOfMemory => Stop::OutOfMemory,
+            ScheduleFault::Refused { .. } => Stop::NotClosed,
+        }
+    }
 }
 
 impl From<Stop> for WriteFault {

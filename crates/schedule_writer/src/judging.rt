@@ -6,19 +6,18 @@ ghost use Rattle.metering_model.specs.Batch.{Batch};
 ghost use Rattle.metering_model.specs.BatchReading.{batch_in};
 ghost use Rattle.metering_model.specs.Front.{is_due};
 ghost use Rattle.metering_model.specs.Limits.{last_period};
-ghost use Rattle.metering_model.specs.RatedAlone.{world_before};
 ghost use Rattle.metering_model.specs.Sheet as model;
 ghost use Rattle.metering_model.specs.Step.{step};
 ghost use Rattle.metering_model.specs.Transcript.{line};
 ghost use Rattle.batch_view.specs.Batches.{batch_of};
-ghost use Rattle.group_events.specs.Events.{event_of};
 ghost use Rattle.group_events.specs.Offers.{IsOfferOf};
 ghost use Rattle.schedule_writer.specs.Inputs.{batches_of, item_at, items_in};
 ghost use Rattle.schedule_writer.specs.Refusals.{IsJournaled, answer_to, answers_to, journal_of};
 ghost use Rattle.schedule_writer.specs.Inner.Judged.{IsAskedBy, IsAskedToo, IsAskedWithin, IsJudged, IsLaterStart, IsRefusedAmong, IsRefusedHere, IsRefusedNow, IsRefusedOr};
-ghost use Rattle.schedule_writer.specs.Inner.Plans.{offered_of};
+ghost use Rattle.schedule_writer.specs.Inner.Plans.{offered_of, taken_of};
 ghost use Rattle.schedule_writer.specs.Inner.Walks.{IsFoundOf, IsFoundToo, IsItemLength, IsThere};
 
+use crate::above::world_of;
 use crate::faults::WriteFault;
 use crate::inputs::{Item, Offered, item_at};
 use crate::lines::journal_offered;
@@ -41,10 +40,18 @@ pub(crate) struct Asked {
     pub(crate) last: u16,
 }
 
+/// A batch of an input, as it was read.
+#[derive(Drop)]
+pub(crate) struct Taken {
+    /// The byte of the input at which it begins.
+    pub(crate) from: usize,
+    pub(crate) batch: Arc<OwnedBatch>,
+}
+
 /// The batches of an input, how many of them stand above each line that closes a period, and what they ask.
 #[derive(Drop)]
-pub(crate) struct Items<'a> {
-    pub(crate) batches: Vec<Offered<'a>>,
+pub(crate) struct Items {
+    pub(crate) batches: Vec<Taken>,
     pub(crate) closes: Vec<usize>,
     pub(crate) asked: Asked,
 }
@@ -109,6 +116,24 @@ fn asked_too(sheet: &Sheet, asked: Asked, offer: &Offer) -> Asked
     }
 }
 
+/// Keeps what an offer that begins at a byte of the input was read as, where it is a batch.
+fn keep_read(batches: &mut Vec<Taken>, from: usize, offer: &Offer) -> Result<(), AllocError>
+    ensures { (text : List ℕ) (b : Batch) → IsOfferOf text offer.now → batch_in text ≡ Ok b
+        → OnOk result (map taken_of batches.new.items
+        ≡ map taken_of batches.old.items ++ record { from = from; text = text } ∷ []) }
+{
+    let Offer::Good(batch) = offer else {
+        return Ok(());
+    };
+    let Ok(batch) = Arc::try_clone(batch) else {
+        return Err(AllocError);
+    };
+    match batches.push(Taken { from, batch }) {
+        Ok(_) => Ok(()),
+        Err(_) => Err(AllocError),
+    }
+}
+
 /// A line without its line feed, as why a schedule is refused.
 pub(crate) fn refused(told: Vec<u8>) -> WriteFault
     ensures { (text : List ℕ) → told.items ≡ line text
@@ -119,7 +144,7 @@ pub(crate) fn refused(told: Vec<u8>) -> WriteFault
     WriteFault::Refused(told)
 }
 
-/// Journals one more batch, and answers what it asks too, or why it is refused.
+/// Journals one more batch, keeps what it was read as, and answers what it asks too, or why it is refused.
 fn judge(
     alloc: Global,
     world: &mut World,
@@ -127,6 +152,7 @@ fn judge(
     text: &Arc<Vec<u8>>,
     input: &[u8],
     offered: &Offered<'_>,
+    batches: &mut Vec<Taken>,
     asked: Asked,
 ) -> Result<Asked, WriteFault>
     requires text { input.now ≡ (arc_value text.now).items }
@@ -135,6 +161,8 @@ fn judge(
     ensures journaled { OnOk result (IsJournaled (answer_to world.old offered.now.text.now)) }
     ensures world { OnOk result
         (world.new ≡ (step world.old (journal_of (offered_of offered.now))).1) }
+    ensures batches { OnOk result (map taken_of batches.new.items
+        ≡ map taken_of batches.old.items ++ offered_of offered.now ∷ []) }
     ensures asked { IfOk result
         (IsAskedToo sheet.now.base (batch_of offered.now.text.now) asked) }
     ensures refused { IfErr result
@@ -144,6 +172,9 @@ fn judge(
         return Err(WriteFault::OutOfMemory);
     };
     let more = asked_too(sheet, asked, &offer);
+    let Ok(()) = keep_read(batches, offered.from, &offer) else {
+        return Err(WriteFault::OutOfMemory);
+    };
     let event = Event::Journal(offer);
     let mut told = Vec::new(alloc);
     let journaled = journal_offered(alloc, world, input, offered, None, &event, &mut told);
@@ -156,33 +187,15 @@ fn judge(
     }
 }
 
-/// A group of one node and 64 agents, in which nothing has happened.
-fn world_before(
-    alloc: Global,
-    sheet: &Arc<Sheet>,
-    issuer: &Arc<Issuer>,
-) -> Result<World, AllocError>
-    ensures { IfOk result (λ world. world
-        ≡ world_before (arc_value sheet.now) (arc_value issuer.now)) }
-{
-    let Ok(sheet) = Arc::try_clone(sheet) else {
-        return Err(AllocError);
-    };
-    match Arc::try_clone(issuer) {
-        Ok(issuer) => World::new(alloc, 1, 0, 64, sheet, issuer),
-        Err(error) => Err(error),
-    }
-}
-
 /// Takes the item that begins at a byte of the input, a batch where the world journals it, and answers how many bytes it has.
-fn take_item<'a>(
+fn take_item(
     alloc: Global,
     world: &mut World,
     sheet: &Sheet,
     text: &Arc<Vec<u8>>,
-    input: &'a [u8],
+    input: &[u8],
     from: usize,
-    items: &mut Items<'a>,
+    items: &mut Items,
 ) -> Result<usize, WriteFault>
     requires text { input.now ≡ (arc_value text.now).items }
     requires from { from ≤ length input.now }
@@ -191,9 +204,9 @@ fn take_item<'a>(
     ensures found { OnOk result (IsFoundToo (item_at input.now from) items.old items.new) }
     ensures judged { (issuer : model.Issuer)
         → IsJudged sheet.now issuer
-        (map offered_of items.old.batches.items) world.old items.old.asked.agents
+        (map taken_of items.old.batches.items) world.old items.old.asked.agents
         items.old.asked.last
-        → OnOk result (IsJudged sheet.now issuer (map offered_of items.new.batches.items) world.new
+        → OnOk result (IsJudged sheet.now issuer (map taken_of items.new.batches.items) world.new
         items.new.asked.agents items.new.asked.last) }
     ensures refused { IfErr result (IsRefusedOr (IsRefusedHere input.now from world.old)) }
 {
@@ -204,14 +217,20 @@ fn take_item<'a>(
             Err(_) => Err(WriteFault::OutOfMemory),
         },
         Item::Offers(offered) => {
-            match judge(alloc, world, sheet, text, input, &offered, items.asked) {
-                Ok(asked) => match items.batches.push(offered) {
-                    Ok(_) => {
-                        items.asked = asked;
-                        Ok(length)
-                    }
-                    Err(_) => Err(WriteFault::OutOfMemory),
-                },
+            match judge(
+                alloc,
+                world,
+                sheet,
+                text,
+                input,
+                &offered,
+                &mut items.batches,
+                items.asked,
+            ) {
+                Ok(asked) => {
+                    items.asked = asked;
+                    Ok(length)
+                }
                 Err(fault) => Err(fault),
             }
         }
@@ -220,14 +239,14 @@ fn take_item<'a>(
 
 /// Takes the items from a byte of the input on in turn, in a group in which nothing has happened, and answers what stands there and
 /// what its batches ask of one, or which is refused first: what stands behind that is not looked at.
-fn take_items<'a>(
+fn take_items(
     alloc: Global,
     text: &Arc<Vec<u8>>,
     world: &mut World,
     sheet: &Sheet,
-    input: &'a [u8],
+    input: &[u8],
     from: usize,
-    items: &mut Items<'a>,
+    items: &mut Items,
 ) -> Result<(), WriteFault>
     requires text { input.now ≡ (arc_value text.now).items }
     requires from { from ≤ length input.now }
@@ -238,7 +257,7 @@ fn take_items<'a>(
     ensures within { OnOk result (IsAskedWithin items.new.asked.agents items.new.asked.last) }
     ensures judged { (issuer : model.Issuer)
         → IsJudged sheet.now issuer [] world.old items.old.asked.agents items.old.asked.last
-        → OnOk result (IsJudged sheet.now issuer (map offered_of items.new.batches.items) world.new
+        → OnOk result (IsJudged sheet.now issuer (map taken_of items.new.batches.items) world.new
         items.new.asked.agents items.new.asked.last) }
     ensures refused { (issuer : model.Issuer)
         → IsJudged sheet.now issuer [] world.old items.old.asked.agents items.old.asked.last
@@ -258,30 +277,30 @@ fn take_items<'a>(
     Ok(())
 }
 
-/// Journals the batches from a byte of the input on in turn, in such a group, and answers what stands there and what they ask of
-/// one, or which is refused first: what stands behind that is not looked at.
-pub(crate) fn read_items<'a>(
+/// Journals the batches from a byte of the input on in turn, in a group of one node and 64 agents in which nothing has happened, and
+/// answers what stands there and what they ask of a group, or which is refused first: what stands behind that is not looked at.
+pub(crate) fn read_items(
     alloc: Global,
     sheet: &Arc<Sheet>,
     issuer: &Arc<Issuer>,
     text: &Arc<Vec<u8>>,
-    input: &'a [u8],
+    input: &[u8],
     from: usize,
-) -> Result<Items<'a>, WriteFault>
+) -> Result<Items, WriteFault>
     requires from { from ≤ length input.now }
     requires text { input.now ≡ (arc_value text.now).items }
     ensures found { IfOk result (IsFoundOf (items_in (length input.now) input.now from)) }
     ensures taken { IfOk result (λ r. All IsJournaled
         (answers_to (arc_value sheet.now) (arc_value issuer.now)
-        (map offered_of r.batches.items))) }
+        (map taken_of r.batches.items))) }
     ensures asked { IfOk result (λ r. IsAskedBy
-        (arc_value sheet.now).base (map offered_of r.batches.items) r.asked.agents r.asked.last) }
+        (arc_value sheet.now).base (map taken_of r.batches.items) r.asked.agents r.asked.last) }
     ensures within { IfOk result (λ r. IsAskedWithin r.asked.agents r.asked.last) }
     ensures refused { IfErr result (IsRefusedOr (IsRefusedAmong
         input.now (arc_value sheet.now) (arc_value issuer.now)
         (batches_of (items_in (length input.now) input.now from)))) }
 {
-    let Ok(mut world) = world_before(alloc, sheet, issuer) else {
+    let Ok(mut world) = world_of(alloc, 1, 0, 64, sheet, issuer) else {
         return Err(WriteFault::OutOfMemory);
     };
     let mut items = Items {

@@ -1,6 +1,7 @@
 //! From a sheet, an issuer and batches to a schedule that closes their months.
 #![tactic(auto)]
 
+mod above;
 mod asked;
 mod certifying;
 mod checking;

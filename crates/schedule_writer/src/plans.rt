@@ -1,23 +1,26 @@
 //! What a schedule is to journal and to close, and whether one does.
 
-ghost use Rattle.std.specs.Prelude.{◌≡◌, ◌↔◌, ◌<◌, ◌≤◌, nat_le, IfOk, IsTrue, Some, None, if◌then◌else◌};
+ghost use Rattle.std.specs.Prelude.{◌≡◌, ◌↔◌, ◌<◌, ◌≤◌, nat_le, IfOk, IsTrue, Some, None, if◌then◌else◌, length, true};
 ghost use Rattle.metering_model.specs.BatchReading.{is_same};
 ghost use Rattle.metering_model.specs.Front.{front};
 ghost use Rattle.metering_model.specs.Schedule.{PlansExport};
 ghost use Rattle.metering_model.specs.Limits.{last_period, most_nodes};
+ghost use Rattle.metering_model.specs.World.{Journal, offer_of};
+ghost use Rattle.group_events.specs.Events.{event_of};
 ghost use Rattle.group_events.specs.Replies.{reply_of};
 ghost use Rattle.schedule_reader.specs.Events.{HasWholeLines, planned_of};
-ghost use Rattle.schedule_writer.specs.Inner.Plans.{IsWithinGroup, all_seen, behind, behind_taken, due_for, is_file_of, is_good, is_next, is_turn, one_more_ballot, one_more_batch, one_more_file, plan_of};
+ghost use Rattle.schedule_writer.specs.Inner.Plans.{ComesNext, IsPlan, all_seen, behind, behind_taken, due_for, is_file_of, is_good, is_next, is_turn, one_more_ballot, one_more_batch, one_more_file, plan_of};
 
 use crate::faults::Stop;
-use crate::inputs::Offered;
+use crate::judging::Taken;
 use batch_store::Store;
 use byte_text::is_same;
-use group_events::Snapshot;
+use group_events::{Event, Offer, Snapshot};
 use price_sheet::Sheet;
 use schedule_player::Reply;
 use schedule_reader::Planned;
 use std::alloc::Global;
+use std::sync::Arc;
 
 /// What a schedule is to journal and to close.
 #[derive(Drop)]
@@ -28,8 +31,9 @@ pub(crate) struct Plan<'a> {
     pub(crate) nodes: u8,
     /// The last period that is closed.
     pub(crate) last: u16,
-    pub(crate) sheet: &'a Sheet,
-    pub(crate) batches: &'a [Offered<'a>],
+    pub(crate) agents: u8,
+    pub(crate) sheet: &'a Arc<Sheet>,
+    pub(crate) batches: &'a [Taken],
     /// How many batches stand above each line that closes a period.
     pub(crate) closes: &'a [usize],
 }
@@ -58,11 +62,21 @@ impl<'a> Plan<'a> {
         }
     }
 
-    /// Whether the text is the batch that comes next.
-    fn is_next(&self, seen: Seen, text: &[u8]) -> bool
-        ensures { result ≡ is_next (plan_of self.now) seen text.now }
+    /// The text as a batch that is journaled, where it is the batch that comes next: it was read, and is shared.
+    pub(crate) fn journal(&self, seen: Seen, text: &[u8]) -> Result<Event, Stop>
+        ensures event { IfOk result (λ event. event_of event ≡ Journal (offer_of text.now)) }
+        ensures next { IfOk result (λ _. is_next (plan_of self.now) seen text.now ≡ true) }
     {
-        seen.journaled < self.batches.len() && is_same(self.batches[seen.journaled].text, text)
+        let Some(next) = self.batches.get(seen.journaled) else {
+            return Err(Stop::NotClosed);
+        };
+        if !is_same(next.batch.bytes(), text) {
+            return Err(Stop::NotClosed);
+        }
+        match Arc::try_clone(&next.batch) {
+            Ok(shared) => Ok(Event::Journal(Offer::Good(shared))),
+            Err(_) => Err(Stop::OutOfMemory),
+        }
     }
 
     /// Whether it is the node's turn to show the file of that period, and the batches above it are journaled.
@@ -131,17 +145,14 @@ impl<'a> Plan<'a> {
     }
 
     /// What was done with one more batch.
-    fn with_batch(&self, seen: Seen, text: &[u8]) -> Option<Seen>
-        ensures { result ≡ (if is_next (plan_of self.now) seen text.now then Some
-            (one_more_batch seen) else None) }
+    fn with_batch(&self, seen: Seen) -> Seen
+        requires { seen.journaled < length self.now.batches.now }
+        ensures { result ≡ one_more_batch seen }
     {
-        if !self.is_next(seen, text) {
-            return None;
-        }
-        Some(Seen {
+        Seen {
             journaled: seen.journaled + 1,
             ..seen
-        })
+        }
     }
 
     /// What was done with one more ballot.
@@ -190,7 +201,7 @@ impl<'a> Plan<'a> {
         period: u16,
         reply: &Reply,
     ) -> Result<Option<Seen>, Stop>
-        requires { IsWithinGroup self.now }
+        requires { IsPlan self.now }
         ensures { IfOk result (λ next. next ≡ behind_taken
             (plan_of self.now) seen journals.now.batches (reply_of reply.now)
             (PlansExport node period)) }
@@ -205,7 +216,8 @@ impl<'a> Plan<'a> {
         }
     }
 
-    /// What was done behind one more event and its reply, with these journals before it; None where it is not what is planned.
+    /// What was done behind one more event and its reply, with these journals before it; None where it is not what is planned. Of a batch
+    /// it is known that it comes next.
     pub(crate) fn behind(
         &self,
         alloc: Global,
@@ -214,8 +226,9 @@ impl<'a> Plan<'a> {
         event: &Planned<'_>,
         reply: &Reply,
     ) -> Result<Option<Seen>, Stop>
-        requires plan { IsWithinGroup self.now }
+        requires plan { IsPlan self.now }
         requires whole { HasWholeLines event.now }
+        requires next { ComesNext (plan_of self.now) seen (planned_of event.now) }
         ensures { IfOk result (λ next. next ≡ behind
             (plan_of self.now) seen journals.now.batches (reply_of reply.now)
             (planned_of event.now)) }
@@ -224,7 +237,7 @@ impl<'a> Plan<'a> {
             return Ok(None);
         }
         match event {
-            Planned::Journal(text) => Ok(self.with_batch(seen, text)),
+            Planned::Journal(_) => Ok(Some(self.with_batch(seen))),
             Planned::Export { node, period } => {
                 self.behind_export(alloc, seen, journals, *node, *period, reply)
             }

@@ -7,7 +7,7 @@ ghost use Rattle.counted_io.specs.Counts.{count_after};
 ghost use Rattle.counted_io.specs.Reading.{ConsumesAtMost};
 ghost use Rattle.counted_io.specs.Streams.{UsesStreams};
 ghost use Rattle.counted_io.specs.Writing.{AppendsPrefix};
-ghost use Rattle.metering_model.specs.Limits.{last_period, most_agents, most_input_bytes, most_nodes};
+ghost use Rattle.metering_model.specs.Limits.{last_period, most_agents, most_input_bytes};
 ghost use Rattle.metering_model.specs.Transcript.{line};
 ghost use Rattle.fault_lines.specs.Told.{said_of_fault};
 ghost use Rattle.schedule_writer.specs.Faults.{TellsFaults, tells_of_reader, tells_of_writer};
@@ -16,15 +16,14 @@ ghost use Rattle.schedule_writer.specs.Requests.{IsRequest};
 ghost use Rattle.schedule_writer.specs.Schedules.{IsScheduleOf};
 ghost use Rattle.schedule_writer.specs.Inner.Certified.{IsCertified};
 ghost use Rattle.schedule_writer.specs.Inner.Judged.{IsAskedBy, IsAskedWithin, IsFaultOf, IsReadInput, IsRefusedOr, IsUncertain, IsUnread};
-ghost use Rattle.schedule_writer.specs.Inner.Plans.{offered_of, plan_of};
-ghost use Rattle.schedule_writer.specs.Inner.Walks.{IsGiven};
+ghost use Rattle.schedule_writer.specs.Inner.Plans.{IsPlan, plan_of, taken_of};
+ghost use Rattle.schedule_writer.specs.Inner.Walks.{HasSheet, IsGiven};
 
 use crate::asked::Request;
 use crate::certifying::certify;
 use crate::drafting::schedule_for;
 use crate::faults::{Stop, WriteFault};
-use crate::inputs::Offered;
-use crate::judging::{Asked, read_items, refused};
+use crate::judging::{Items, read_items, refused};
 use crate::plans::Plan;
 use counted_io::{Sink, Source, write_all};
 use fault_lines::put_fault;
@@ -73,61 +72,53 @@ fn last_closed(asked: u16, least: usize) -> Option<u16>
     }
 }
 
-/// The text of a schedule, where it stands the test. It is shared, so that the test copies no batch of it.
+/// The text of a schedule, where it stands the test.
 fn certified_text(
     alloc: Global,
     plan: &Plan<'_>,
-    agents: u8,
-    issuer: &Issuer,
     input: &[u8],
     batch_from: usize,
-) -> Result<Arc<Vec<u8>>, Stop>
-    requires voters { 1 ≤ plan.now.voters }
-    requires nodes { (plan.now.nodes ≡ plan.now.voters + plan.now.observers)
-        × (plan.now.nodes ≤ most_nodes) }
-    requires last { plan.now.last ≤ last_period }
-    requires agents { (1 ≤ agents) × (agents ≤ most_agents) }
-    ensures { IfOk result (λ text. IsCertified (plan_of plan.now)
-        plan.now.voters plan.now.observers agents plan.now.sheet.now issuer.now
-        (arc_value text).items) }
+    issuer: &Arc<Issuer>,
+) -> Result<Vec<u8>, Stop>
+    requires plan { IsPlan plan.now }
+    requires input { HasSheet input.now (arc_value plan.now.sheet.now) }
+    ensures { IfOk result (λ text. IsCertified (plan_of plan.now) plan.now.voters
+        plan.now.observers plan.now.agents (arc_value plan.now.sheet.now) (arc_value issuer.now)
+        text.items) }
 {
-    let text = match schedule_for(alloc, plan, agents, input, batch_from) {
+    let text = match schedule_for(alloc, plan, input, batch_from) {
         Ok(text) => text,
         Err(stop) => return Err(stop),
     };
-    let Ok(text) = Arc::new(alloc, text) else {
-        return Err(Stop::OutOfMemory);
-    };
-    match certify(alloc, plan, agents, issuer, &text, &text) {
+    match certify(alloc, plan, input, issuer, &text) {
         Ok(()) => Ok(text),
         Err(stop) => Err(stop),
     }
 }
 
-/// The schedule for an input, of which these are the batches, with what they ask, and the numbers of those above each line that
-/// closes a period.
+/// The schedule for an input, of which these were found: its batches, with what they ask, and the numbers of those above each line
+/// that closes a period.
 fn schedule_with(
     alloc: Global,
     request: Request,
     input: &[u8],
     batch_from: usize,
-    sheet: &Sheet,
-    issuer: &Issuer,
-    batches: &[Offered<'_>],
-    closes: &[usize],
-    asked: Asked,
-) -> Result<Arc<Vec<u8>>, WriteFault>
+    sheet: &Arc<Sheet>,
+    issuer: &Arc<Issuer>,
+    found: &Items,
+) -> Result<Vec<u8>, WriteFault>
     requires request { IsRequest request }
-    requires within { IsAskedWithin asked.agents asked.last }
-    requires read { IsReadInput input.now sheet.now issuer.now
-        (map offered_of batches.now) closes.now }
-    requires asked { IsAskedBy sheet.now.base (map offered_of batches.now) asked.agents asked.last }
+    requires within { IsAskedWithin found.now.asked.agents found.now.asked.last }
+    requires input { IsReadInput input.now (arc_value sheet.now) (arc_value issuer.now)
+        (map taken_of found.now.batches.items) found.now.closes.items }
+    requires asked { IsAskedBy (arc_value sheet.now).base
+        (map taken_of found.now.batches.items) found.now.asked.agents found.now.asked.last }
     ensures schedule { IfOk result
-        (λ text. IsScheduleOf request (Some input.now) input.now (arc_value text).items) }
+        (λ text. IsScheduleOf request (Some input.now) input.now text.items) }
     ensures fault { IfErr result IsUncertain }
 {
-    let through = request.through.unwrap_or(asked.last);
-    let least = least_last(request.through, batches.len(), closes);
+    let through = request.through.unwrap_or(found.asked.last);
+    let least = least_last(request.through, found.batches.len(), &found.closes);
     let Some(last) = last_closed(through, least) else {
         return Err(WriteFault::TooLong);
     };
@@ -136,11 +127,12 @@ fn schedule_with(
         observers: request.observers,
         nodes: request.nodes + request.observers,
         last,
+        agents: found.asked.agents,
         sheet,
-        batches,
-        closes,
+        batches: &found.batches,
+        closes: &found.closes,
     };
-    match certified_text(alloc, &plan, asked.agents, issuer, input, batch_from) {
+    match certified_text(alloc, &plan, input, batch_from, issuer) {
         Ok(text) => Ok(text),
         Err(stop) => Err(WriteFault::from(stop)),
     }
@@ -155,26 +147,16 @@ fn schedule_by(
     batch_from: usize,
     sheet: &Arc<Sheet>,
     issuer: &Arc<Issuer>,
-) -> Result<Arc<Vec<u8>>, WriteFault>
+) -> Result<Vec<u8>, WriteFault>
     requires request { IsRequest request }
     requires text { input.now ≡ (arc_value text.now).items }
     requires given { IsGiven input.now (arc_value sheet.now) (arc_value issuer.now) batch_from }
     ensures schedule { IfOk result
-        (λ made. IsScheduleOf request (Some input.now) input.now (arc_value made).items) }
+        (λ made. IsScheduleOf request (Some input.now) input.now made.items) }
     ensures fault { IfErr result (IsFaultOf input.now) }
 {
     match read_items(alloc, sheet, issuer, text, input, batch_from) {
-        Ok(items) => schedule_with(
-            alloc,
-            request,
-            input,
-            batch_from,
-            sheet,
-            issuer,
-            &items.batches,
-            &items.closes,
-            items.asked,
-        ),
+        Ok(items) => schedule_with(alloc, request, input, batch_from, sheet, issuer, &items),
         Err(fault) => Err(fault),
     }
 }
@@ -197,12 +179,12 @@ fn schedule_of(
     text: &Arc<Vec<u8>>,
     input: &[u8],
     given: RateInput,
-) -> Result<Arc<Vec<u8>>, WriteFault>
+) -> Result<Vec<u8>, WriteFault>
     requires request { IsRequest request }
     requires text { input.now ≡ (arc_value text.now).items }
     requires given { IsGiven input.now given.sheet given.issuer given.batch_from }
     ensures schedule { IfOk result
-        (λ made. IsScheduleOf request (Some input.now) input.now (arc_value made).items) }
+        (λ made. IsScheduleOf request (Some input.now) input.now made.items) }
     ensures fault { IfErr result (IsFaultOf input.now) }
 {
     let RateInput {
@@ -235,15 +217,15 @@ fn refused_for(alloc: Global, text: &[u8], fault: ScheduleFault) -> WriteFault
     }
 }
 
-/// The schedule for an input. It is shared, so that no batch of it is copied.
+/// The schedule for an input, which is shared, so that no batch of it is copied.
 fn schedule_for_input(
     alloc: Global,
     request: Request,
     input: Vec<u8>,
-) -> Result<Arc<Vec<u8>>, WriteFault>
+) -> Result<Vec<u8>, WriteFault>
     requires { IsRequest request }
     ensures schedule { IfOk result
-        (λ made. IsScheduleOf request (Some input.items) input.items (arc_value made).items) }
+        (λ made. IsScheduleOf request (Some input.items) input.items made.items) }
     ensures fault { IfErr result (IsFaultOf input.items) }
 {
     let Ok(text) = Arc::new(alloc, input) else {

@@ -1,12 +1,13 @@
 -- What a schedule is to journal and to close, and what it has done so far.
-use Rattle.std.specs.Prelude.{◌≡◌, ◌≤◌, ℕ, ◌+◌, ◌==◌, ◌&&◌, Bool, true, false, not, nat_le, nat_lt, if◌then◌else◌, List, [], ◌∷◌, length, map, Option, Some, None, Result, Ok}
+use Rattle.std.specs.Prelude.{◌≡◌, ◌≤◌, ℕ, ◌+◌, ◌==◌, ◌&&◌, Bool, true, false, not, nat_le, nat_lt, if◌then◌else◌, List, [], ◌∷◌, length, map, Option, Some, None, Result, Ok, ⊤}
+use Rattle.std.specs.Arc.{arc_value}
 use Rattle.std.specs.List.{slice_index_or}
 use Rattle.std.specs.Option.{option_and_then, option_map_or}
 use Rattle.batch_view.specs.Batches.{batch_of}
 use Rattle.metering_model.specs.BatchReading.{is_same}
 use Rattle.metering_model.specs.Front.{front}
 use Rattle.metering_model.specs.Holding.{Holding, put}
-use Rattle.metering_model.specs.Limits.{last_period, most_nodes}
+use Rattle.metering_model.specs.Limits.{last_period, most_agents, most_nodes}
 use Rattle.metering_model.specs.Schedule.{Planned, PlansJournal, PlansDelivery, PlansStart, PlansRestart, PlansExport, PlansKeep, PlansRevival, event_of, lines_text}
 use Rattle.metering_model.specs.Step.{step}
 use Rattle.metering_model.specs.World.{World, Event, Journal, Good, Reply, Exported}
@@ -17,6 +18,7 @@ use Rattle.schedule_reader.specs.Schedules.{event_in}
 use Rattle.schedule_writer.specs.declared.inputs.Item.{Item as LentItem}
 use Rattle.schedule_writer.specs.declared.inputs.Item.TheVariants as lent
 use Rattle.schedule_writer.specs.declared.inputs.Offered.{Offered as LentBatch}
+use Rattle.schedule_writer.specs.declared.judging.Taken.{Taken}
 use Rattle.schedule_writer.specs.declared.plans.Plan.{Plan as LentPlan}
 use Rattle.schedule_writer.specs.declared.plans.Seen.{Seen}
 use Rattle.schedule_writer.specs.Inputs.{Item, Offers, Closes, Offered, due_in}
@@ -24,6 +26,9 @@ use Rattle.schedule_writer.specs.Schedules.{learned_in}
 
 abbrev pub offered_of : LentBatch → Offered
 offered_of b = record { from = b.from; text = b.text.now }
+
+abbrev pub taken_of : Taken → Offered
+taken_of b = record { from = b.from; text = arc_value b.batch }
 
 abbrev pub item_of : LentItem → Item
 item_of (lent.Offers b) = Offers (offered_of b)
@@ -38,17 +43,20 @@ pub record Plan : Type 0 where
   pub batches : List (List ℕ)
   pub closes : List ℕ
 
--- no more nodes, and no later period, than a group has
-pub record IsWithinGroup (p : LentPlan) : Type 0 where
+-- a group may have so many voters, nodes and agents, and such a last period
+pub record IsPlan (p : LentPlan) : Type 0 where
+  pub voters : 1 ≤ p.voters
+  pub all : p.nodes ≡ p.voters + p.observers
   pub nodes : p.nodes ≤ most_nodes
+  pub agents : (1 ≤ p.agents) × (p.agents ≤ most_agents)
   pub last : p.last ≤ last_period
 
 abbrev pub plan_of : LentPlan → Plan
 plan_of p = record {
   nodes = p.nodes;
   last = p.last;
-  base = p.sheet.now.base;
-  batches = map (λ b. b.text) (map offered_of p.batches.now);
+  base = (arc_value p.sheet.now).base;
+  batches = map (λ b. b.text) (map taken_of p.batches.now);
   closes = p.closes.now;
 }
 
@@ -58,6 +66,11 @@ due_for plan p = due_in plan.closes (length plan.batches) p
 -- whether the text is the batch that comes next
 abbrev pub is_next : Plan → Seen → List ℕ → Bool
 is_next plan seen text = nat_lt seen.journaled (length plan.batches) && is_same (slice_index_or plan.batches seen.journaled []) text
+
+-- a batch that is planned is the one that comes next
+abbrev pub ComesNext : Plan → Seen → Planned → Type 0
+ComesNext plan seen (PlansJournal ls) = is_next plan seen (lines_text ls) ≡ true
+ComesNext plan seen other = ⊤
 
 -- whether it is the node's turn to show the file of that period, and the batches above it are journaled
 abbrev pub is_turn : Plan → Seen → ℕ → ℕ → Bool

@@ -1,18 +1,28 @@
-use Rattle.std.proofs.Common.{refl, ◌∙◌}
-use Rattle.schedule_reader.proofs.CountedEvents.{preamble_counted}
-use Rattle.schedule_writer.specs.Inner.Plans.{all_seen, plan_of}
+use Rattle.std.proofs.Common.{◌≡◌, Ok, length, refl, subst}
+use Rattle.std.specs.Arc.{arc_value}
+use Rattle.metering_model.specs.Sheet.{Issuer}
+use Rattle.metering_model.specs.World.{opening}
+use Rattle.schedule_reader.specs.Schedules.{events_in, preamble_in}
+use Rattle.schedule_writer.specs.Inner.Plans.{IsDone, all_seen, nothing_seen, plan_of}
 use Rattle.schedule_writer.proofs.PlanLaws.{certified}
-use Rattle.schedule_writer.proofs.CheckLaws.{both_on_ok}
 use Rattle.schedule_writer.proofs.certifying.certify.Goals as goal
 
-pub certify_below-requires-clause-text : goal.certify_below-requires-clause-text
-certify_below-requires-clause-text c = (preamble_counted c.args.lent.now _ c.in-Ok.ensures.taken).text_is ∙ c.requires.lent
-
-pub returns-in-Ok : goal.returns-in-Ok
-returns-in-Ok c =
-    let a = c.in-Ok.above in
-    both_on_ok c.certify_below.result
-    (λ is done. certified (plan_of c.args.plan.now) c.args.lent.now
-    (record { voters = a.voters; observers = a.observers; agents = a.agents; sheet = a.sheet; issuer = a.issuer; rest = a.rest })
-    _ _ _ _ _ (all_seen (plan_of c.args.plan.now)) c.in-Ok.ensures.taken is.0 is.1 is.2 is.3 is.4 refl done)
-    c.certify_below.ensures.planned c.certify_below.ensures.done
+pub returns-then-is_done : goal.returns-then-is_done
+returns-then-is_done c =
+    let p = c.args.plan.now in
+    let text = c.args.text.now in
+    let events = c.in-Ok.events in
+    let sheet = arc_value p.sheet.now in
+    let issuer = arc_value c.args.issuer.now in
+    let above = subst (λ (i : Issuer). preamble_in text ≡ Ok (record {
+      voters = p.voters;
+      observers = p.observers;
+      agents = p.agents;
+      sheet = sheet;
+      issuer = i;
+      rest = events;
+    })) c.deref.ensures c.in-Ok.ensures in
+    let done = subst (λ n. IsDone (plan_of p) nothing_seen n (opening p.voters p.observers p.agents sheet issuer) (events_in (length text) events))
+    (c.is_done.ensures.0 c.if-is_done.true) c.in-Ok-do_behind.ensures in
+    certified (plan_of p) text (record { voters = p.voters; observers = p.observers; agents = p.agents; sheet = sheet; issuer = issuer; rest = events })
+    _ _ _ _ _ (all_seen (plan_of p)) above refl refl refl refl refl refl done

@@ -24,8 +24,6 @@ loop-preserved c =
       same = one.journals;
       done = λ last is. c.loop.invariant.done last
           (done_more (plan_of c.args.plan.now) c.loop.seen _ last c.loop.world _ k _ c.loop.here _ more some one.done is);
-      text = one.left.0;
-      within = one.left.1;
     }
 
 pub returns : goal.returns

@@ -24,6 +24,7 @@ returns-in-Ok-true c =
     record {
       journaled = journaled;
       world = c.in-Ok-true.ensures.world;
+      batches = c.in-Ok-keep_read.ensures text read.0 c.in-Ok.ensures read.1;
       asked = c.asked_too-more.ensures.asked text read.0 c.in-Ok.ensures read.1;
       refused = tt;
     }
@@ -38,6 +39,7 @@ returns-in-Ok-false c =
     record {
       journaled = tt;
       world = tt;
+      batches = tt;
       asked = tt;
       refused = refused_now input c.journal_offered-journaled.new.told.items w b c.refused.result (c.in-Ok-false.ensures.refused c.in-Ok-false.field-0-test) told
           c.refused.ensures;

@@ -1,13 +1,12 @@
-use Rattle.std.proofs.Common.{drop, map, refl, sym, ap, ◌∙◌}
+use Rattle.std.proofs.Common.{drop, refl, ap, ◌∙◌}
 use Rattle.std.specs.Arc.{arc_value}
 use Rattle.std.proofs.lemmas.Result.{IfErr-weaker}
 use Rattle.schedule_writer.specs.Inputs.{batches_of, closes_from}
-use Rattle.schedule_writer.specs.Inner.Plans.{offered_of}
 use Rattle.schedule_writer.proofs.ScheduleLaws.{is_taken, items_behind, refused_fault, uncertain}
 use Rattle.schedule_writer.proofs.writing.schedule_by.Goals as goal
 
-pub schedule_with-requires-clause-read : goal.schedule_with-requires-clause-read
-schedule_with-requires-clause-read c =
+pub schedule_with-requires-clause-input : goal.schedule_with-requires-clause-input
+schedule_with-requires-clause-input c =
     let input = c.args.input.now in
     let from = c.args.batch_from in
     let sheet = arc_value c.args.sheet.now in
@@ -16,10 +15,10 @@ schedule_with-requires-clause-read c =
     record {
       given = record { sheet = sheet; issuer = issuer; batch = drop from input };
       is_given = c.requires.given.is_read;
-      by_sheet = sym c.deref.ensures;
-      by_issuer = sym c.deref-in-Ok.ensures;
-      batches = ap (map offered_of) c.deref-in-Ok-2.ensures.value ∙ (c.in-Ok.ensures.found.batches ∙ ap batches_of same);
-      are_closes = c.deref-in-Ok-3.ensures.value ∙ (c.in-Ok.ensures.found.closes ∙ ap (closes_from 0) same);
+      by_sheet = refl;
+      by_issuer = refl;
+      batches = c.in-Ok.ensures.found.batches ∙ ap batches_of same;
+      are_closes = c.in-Ok.ensures.found.closes ∙ ap (closes_from 0) same;
     }
 
 pub returns-in-Err : goal.returns-in-Err

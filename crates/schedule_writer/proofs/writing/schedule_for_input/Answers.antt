@@ -1,5 +1,4 @@
 use Rattle.std.proofs.Common.{Some, IfOk, IfErr, ap, subst, ◌∙◌}
-use Rattle.std.specs.Arc.{arc_value}
 use Rattle.schedule_writer.specs.Schedules.{IsScheduleOf}
 use Rattle.schedule_writer.specs.Inner.Judged.{IsFaultOf}
 use Rattle.schedule_writer.proofs.ScheduleLaws.{section_fault}
@@ -9,7 +8,7 @@ pub returns-in-Ok-rate_input : goal.returns-in-Ok-rate_input
 returns-in-Ok-rate_input c =
     let same = c.deref-input.ensures.value ∙ ap (λ v. v.items) (c.deref.ensures ∙ c.in-Ok.ensures.ok) in
     record {
-      schedule = subst (λ t. IfOk c.schedule_of.result (λ made. IsScheduleOf c.args.request (Some t) t (arc_value made).items)) same c.schedule_of.ensures.schedule;
+      schedule = subst (λ t. IfOk c.schedule_of.result (λ made. IsScheduleOf c.args.request (Some t) t made.items)) same c.schedule_of.ensures.schedule;
       fault = subst (λ t. IfErr c.schedule_of.result (IsFaultOf t)) same c.schedule_of.ensures.fault;
     }
 
