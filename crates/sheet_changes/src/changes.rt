@@ -52,7 +52,7 @@ fn nothing_behind(unread: &Unread<'_>) -> Result<(), ScheduleFault>
     }
 }
 
-/// Drops two sheets, one after the other, as all here for the prover's time alone (docs/DECISIONS.md).
+/// Drops two sheets, each by a call: for the prover's time alone (docs/DECISIONS.md), as whoever drops both calls this.
 pub(crate) fn drop_both(both: (Sheet, Sheet)) {
     let (old, new) = both;
     old.release();
