@@ -380,7 +380,7 @@ fn behind_format(line: &[u8]) -> Option<&[u8]>
         (HasNoHead (fields_in line.now))
         (λ rest. fields_in line.now ≡ codes "P1" ∷ fields_in rest.now) }
 {
-    // Each packet has its first bar there, so none looks for it.
+    // Each packet begins so: its first bar is not looked for.
     if line.len() > 3 && is_same(&line[..3], b"P1|") {
         return Some(&line[3..]);
     }

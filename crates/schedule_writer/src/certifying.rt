@@ -85,15 +85,14 @@ fn do_made(
     }
 }
 
-/// The event that is planned. A batch that comes next is not read again, and one that does not is none of what was planned.
+/// The event that is planned. A batch is shared where it is the one that comes next, and nothing is answered where it is another.
 fn event_for(
     alloc: Global,
     plan: &Plan<'_>,
     seen: Seen,
     planned: &Planned<'_>,
 ) -> Result<Event, Stop>
-    requires plan { IsPlan plan.now }
-    requires whole { HasWholeLines planned.now }
+    requires { HasWholeLines planned.now }
     ensures event { IfOk result
         (λ event. offered_event event ≡ event_of (planned_of planned.now)) }
     ensures next { IfOk result

@@ -37,7 +37,7 @@ pub(crate) enum Stop {
 }
 
 impl Stop {
-    /// Why a section that was written is not read again.
+    /// Why a section of the schedule is not the one that was planned: no memory to read it, or it is refused.
     pub(crate) fn of_section(fault: ScheduleFault) -> Stop {
         match fault {
             ScheduleFault::OutOfMemory => Stop::OutOfMemory,

@@ -117,7 +117,7 @@ fn asked_too(sheet: &Sheet, asked: Asked, offer: &Offer) -> Asked
 }
 
 /// Keeps what an offer that begins at a byte of the input was read as, where it is a batch.
-fn keep_read(batches: &mut Vec<Taken>, from: usize, offer: &Offer) -> Result<(), AllocError>
+fn keep_taken(batches: &mut Vec<Taken>, from: usize, offer: &Offer) -> Result<(), AllocError>
     ensures { (text : List ℕ) (b : Batch) → IsOfferOf text offer.now → batch_in text ≡ Ok b
         → OnOk result (map taken_of batches.new.items
         ≡ map taken_of batches.old.items ++ record { from = from; text = text } ∷ []) }
@@ -172,7 +172,7 @@ fn judge(
         return Err(WriteFault::OutOfMemory);
     };
     let more = asked_too(sheet, asked, &offer);
-    let Ok(()) = keep_read(batches, offered.from, &offer) else {
+    let Ok(()) = keep_taken(batches, offered.from, &offer) else {
         return Err(WriteFault::OutOfMemory);
     };
     let event = Event::Journal(offer);

@@ -7,7 +7,7 @@ ghost use Rattle.counted_io.specs.Counts.{count_after};
 ghost use Rattle.counted_io.specs.Reading.{ConsumesAtMost};
 ghost use Rattle.counted_io.specs.Streams.{UsesStreams};
 ghost use Rattle.counted_io.specs.Writing.{AppendsPrefix};
-ghost use Rattle.metering_model.specs.Limits.{last_period, most_agents, most_input_bytes};
+ghost use Rattle.metering_model.specs.Limits.{last_period, most_input_bytes};
 ghost use Rattle.metering_model.specs.Transcript.{line};
 ghost use Rattle.fault_lines.specs.Told.{said_of_fault};
 ghost use Rattle.schedule_writer.specs.Faults.{TellsFaults, tells_of_reader, tells_of_writer};

@@ -8,7 +8,7 @@ use Rattle.schedule_writer.proofs.certifying.event_for.Goals as goal
 
 pub returns-in-Journal : goal.returns-in-Journal
 returns-in-Journal c =
-    let lines = rw c.in-Journal.is at c.requires.whole in
+    let lines = rw c.in-Journal.is at c.requires in
     let event = ap (λ e. event_of (planned_of e)) c.in-Journal.is in
     record {
       event = IfOk-weaker c.journal.result _ _ (λ made is. is ∙ (ap (λ t. Journal (offer_of t)) (sym lines) ∙ sym event)) c.journal.ensures.event;

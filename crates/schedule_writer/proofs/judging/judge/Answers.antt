@@ -24,7 +24,7 @@ returns-in-Ok-true c =
     record {
       journaled = journaled;
       world = c.in-Ok-true.ensures.world;
-      batches = c.in-Ok-keep_read.ensures text read.0 c.in-Ok.ensures read.1;
+      batches = c.in-Ok-keep_taken.ensures text read.0 c.in-Ok.ensures read.1;
       asked = c.asked_too-more.ensures.asked text read.0 c.in-Ok.ensures read.1;
       refused = tt;
     }
