@@ -1,5 +1,6 @@
 mod BeginningLaws
 mod CsvText
+mod EndsPut
 mod FileParts
 mod JsonText
 mod LineLaws

@@ -1,11 +1,12 @@
 //! Fields of a line, as a reader of CSV takes them back.
 
-ghost use Rattle.std.specs.Prelude.{◌≡◌, ◌<◌, ◌≤◌, ◌∷◌, ◌++◌, None, length, map, take, IfSome, OnOk, OnErr};
+ghost use Rattle.std.specs.Prelude.{◌≡◌, ◌+◌, ◌<◌, ◌≤◌, ◌∷◌, ◌++◌, None, length, map, take, IfSome, OnOk, OnErr};
 ghost use Rattle.std.specs.List.{flat_map};
 ghost use Rattle.metering_model.specs.File.{quoted};
 ghost use Rattle.focus_csv.specs.Inner.Beginnings.{BeginsWith};
 ghost use Rattle.focus_csv.specs.Inner.Runs.{behind};
 
+use crate::copies::put_at;
 use crate::odd::OddFields;
 use crate::quoting::is_cut;
 use std::alloc::AllocError;
@@ -21,8 +22,57 @@ fn put_next(odd: &mut OddFields, text: &mut Vec<u8>, field: &[u8]) -> Result<(),
     text.extend_from_slice(field)
 }
 
+/// Puts a comma and a field into room, from a place on, and returns where it ends; None where it is odd or finds no room.
+#[inline(always)]
+fn put_field_at(room: &mut [u8], at: usize, field: &[u8]) -> Option<usize>
+    requires { at ≤ length room.old }
+    ensures { IfSome result (λ to. (to ≤ length room.new)
+        × (take to room.new ≡ take at room.old ++ 44 ∷ quoted field.now)) }
+{
+    if is_cut(field) {
+        return None;
+    }
+    let Some(from) = put_at(room, at, b",") else {
+        return None;
+    };
+    put_at(room, from, field)
+}
+
+/// Puts fields into room, each after a comma, and returns how many bytes that are; None where one is odd or finds no room.
+fn fill_piece(room: &mut [u8], fields: &[&[u8]]) -> Option<usize>
+    ensures { IfSome result (λ count. (count ≤ length room.new)
+        × (take count room.new ≡ behind (map (λ f. f.now) fields.now))) }
+{
+    let mut at = 0;
+    for field in fields {
+        let Some(to) = put_field_at(room, at, *field) else {
+            return None;
+        };
+        at = to;
+    }
+    Some(at)
+}
+
+/// Makes a piece that of these fields, each after a comma, of which any may be odd.
+fn make_odd_piece(
+    odd: &mut OddFields,
+    piece: &mut Vec<u8>,
+    fields: &[&[u8]],
+) -> Result<(), AllocError>
+    ensures { OnOk result (piece.new.items ≡ behind (map (λ f. f.now) fields.now)) }
+{
+    piece.clear();
+    for field in fields {
+        put_next(odd, piece, *field)?;
+    }
+    Ok(())
+}
+
 /// So many bytes most pieces have at most: their memory is asked for at once, and not as they grow.
 const PIECE_ROOM: usize = 64;
+
+/// A piece of no more bytes is put together on the stack, and so appended at once.
+const PIECE_BYTES: usize = 128;
 
 /// Makes a piece that of these fields, each after a comma.
 pub(crate) fn make_piece(
@@ -34,10 +84,11 @@ pub(crate) fn make_piece(
 {
     piece.clear();
     piece.reserve(PIECE_ROOM)?;
-    for field in fields {
-        put_next(odd, piece, *field)?;
+    let mut room = [0; PIECE_BYTES];
+    match fill_piece(&mut room, fields) {
+        Some(count) => piece.extend_from_slice(&room[..count]),
+        None => make_odd_piece(odd, piece, fields),
     }
-    Ok(())
 }
 
 /// So many bytes most lines have at most.
@@ -53,11 +104,9 @@ fn fill(line: &mut [u8], pieces: &[&[u8]]) -> Option<usize>
 {
     let mut at = 0;
     for piece in pieces {
-        if piece.len() > line.len() - at {
+        let Some(to) = put_at(line, at, *piece) else {
             return None;
-        }
-        let to = at + piece.len();
-        line[at..to].copy_from_slice(*piece);
+        };
         at = to;
     }
     Some(at)
