@@ -277,8 +277,7 @@ fn file_of_journaled(
     let _bytes = batch.bytes();
     let mut store = Store::new(alloc, AGENTS)?;
     store.put(batch)?;
-    let text = file_to_front(alloc, &store, sheet, issuer, period)?;
-    Ok(text)
+    file_to_front(alloc, &store, sheet, issuer, period)
 }
 
 /// The file of all that a store has, from the zero cut to its front.

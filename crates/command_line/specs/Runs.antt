@@ -101,8 +101,8 @@ IsDone Version known left old new = Appends old new version_line
 
 -- The command refuses so. Of an input whose bytes are known: by its sections or by its batch, or as no schedule, or it has no
 -- whole file of the period; or no schedule was found for it, though its sections are read and each of its batches is taken; or it
--- begins no process, or asks for too much. Of a group: what its workers brought back, or the sheet that is built in. Help and the version are never refused, and what `check`
--- refuses it says (`Says`).
+-- begins no process, or asks for too much. Of a group: what its workers brought back, or the sheet that is built in. Help and the
+-- version are never refused, and what `check` refuses it says (`Says`).
 abbrev pub Refuses : Command → Option (List ℕ) → Fault → Type 0
 Refuses (Rate period) known fault =
     (told : PlayFault) × (fault ≡ of_fault.Play told) × IfSome known (λ input. rated_file period input ≡ Err told)

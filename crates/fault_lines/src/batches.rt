@@ -13,7 +13,7 @@ use crate::text_kinds::batch_words;
 use answer_words::{code_word, kept_code_word, refusal_line};
 use batch_view::{BatchView, Reading, Record};
 use byte_text::put_numbered;
-use metering_model::{BatchFault, Refusal};
+use metering_model::Refusal;
 use price_sheet::Sheet;
 use std::alloc::AllocError;
 

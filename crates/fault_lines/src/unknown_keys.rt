@@ -4,7 +4,6 @@ ghost use Rattle.std.specs.Prelude.{◌≡◌, [], ◌++◌, OnOk, map};
 ghost use Rattle.std.specs.List.{list_any};
 ghost use Rattle.toml.specs.View.{table_view};
 ghost use Rattle.metering_model.specs.BatchReading.{lines_in};
-ghost use Rattle.sheet_text.specs.Keys.{rows_under};
 ghost use Rattle.fault_lines.specs.UnknownKeys.{is_key, is_taken, told_of_keys, told_of_section, unknown_from, unknown_from_issuer, unknown_in_sheet, unknown_on, with_key, with_rows, with_rows_under, with_table};
 ghost use Rattle.fault_lines.specs.Inner.KeyKinds.{unknown_of};
 

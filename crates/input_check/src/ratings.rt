@@ -1,6 +1,6 @@
 //! The batch that is to be rated.
 
-ghost use Rattle.std.specs.Prelude.{◌≡◌, ◌≤◌, [], ◌++◌, drop, length, Ok, Err, Some, OnOk};
+ghost use Rattle.std.specs.Prelude.{◌≡◌, ◌≤◌, [], ◌++◌, drop, length, Ok, OnOk};
 ghost use Rattle.metering_model.specs.Sheet as model;
 ghost use Rattle.metering_model.specs.RatedAlone.{journaled_in};
 ghost use Rattle.fault_lines.specs.Ahead.{ahead_of_all};

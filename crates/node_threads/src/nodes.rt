@@ -39,6 +39,7 @@ enum Next {
     Nothing,
 }
 
+/// What follows from a reply. A step that learns a period sends nothing, so none is passed over.
 fn next_of(reply: &Reply) -> Next {
     match reply {
         Reply::Delivered { sent, learned } => match (sent, learned) {

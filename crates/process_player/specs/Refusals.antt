@@ -133,7 +133,8 @@ pub record Behind (k : ProcessKind) (input : List ℕ) (Holds : ReadLog → ℕ 
 
 -- ---- the whole
 
--- The input has what that fault tells. One that is no refusal says nothing of it.
+-- The input has what that fault tells. One that is no refusal says nothing of it. `TooLong` tells of no line and no command: only
+-- that what stands behind what begins a process, log and commands together, has more bytes than may be held at once.
 abbrev pub Rejects : ProcessKind → (input : List ℕ) → ProcessFault → Type 0
 Rejects k input fault.Read = Unit {0}
 Rejects k input (fault.Section why) = RefusesPreamble k input why ⊎ Behind k input (λ own number stored. stored_lines number (lines_in stored).lines ≡ Err why)

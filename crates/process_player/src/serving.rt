@@ -6,7 +6,6 @@ ghost use Rattle.metering_model.specs.Limits.{most_transcript_bytes};
 ghost use Rattle.counted_io.specs.Counts.{count_after};
 ghost use Rattle.counted_io.specs.Writing.{AppendsPrefix};
 ghost use Rattle.process_text.specs.Answers.{Answers, begun_text};
-ghost use Rattle.process_text.specs.declared.processes.Process.{Process};
 ghost use Rattle.process_player.specs.declared.faults.ProcessFault.{ProcessFault};
 ghost use Rattle.process_player.specs.Faults.{FailsAsTold, IsRefusal, tells_of_writer};
 ghost use Rattle.process_player.specs.Refusals.{Rejects};
@@ -235,7 +234,8 @@ pub fn process_text<R: Source, W: Sink>(
         → RunsTorn kind (R.remaining reader.old) (R.remaining reader.new)
         (W.contents writer.old) (W.contents writer.new) }
 
-    // Each refusal, and `TooLong`, comes of an input that has what it tells.
+    // Each refusal comes of an input that has what it tells; of `TooLong` no more is said than that a log and commands stand
+    // in it that have more bytes together than may be held at once.
     ensures refused { IfErr result (λ fault. IfSome (R.remaining reader.old)
         (λ input. Rejects kind input fault)) }
 

@@ -6,8 +6,6 @@ use Rattle.program_input.specs.declared.ScheduleFault.TheVariants.{OutOfMemory}
 use Rattle.program_input.specs.declared.faults.PlayFault.{PlayFault}
 use Rattle.program_input.specs.declared.faults.PlayFault.TheVariants.{Schedule, Refused}
 use Rattle.schedule_reader.specs.Schedules.{schedule_in}
--- Passed on to the crates above, which so need not name the crate below.
-pub use Rattle.program_input.specs.Faults.{RefusesNothing, tells_of_reader, tells_of_writer}
 
 -- A refused section is the input's first fault, and want of memory is told as such. `Refused` is no answer.
 pub record TellsFaults {A : Type 0} (answer : Result A PlayFault) (known : Option (List ℕ)) : Type 0 where

@@ -1,6 +1,6 @@
 //! What stands behind the sections of an input: batches, and lines that close a period.
 
-ghost use Rattle.std.specs.Prelude.{◌≡◌, ◌<◌, ◌≤◌, length};
+ghost use Rattle.std.specs.Prelude.{◌≡◌, ◌≤◌, length};
 ghost use Rattle.schedule_writer.specs.Inputs.{head_text, item_at, lacks_head, offered_length};
 ghost use Rattle.schedule_writer.specs.Inner.Plans.{item_of};
 ghost use Rattle.schedule_writer.specs.Inner.Walks.{IsItemLength};

@@ -1,6 +1,6 @@
 //! `focusd schedule`: from batches to a schedule that closes their months.
 
-ghost use Rattle.std.specs.Prelude.{◌≡◌, ◌≢◌, ◌+◌, ◌≤◌, ℕ, List, Some, Ok, Err, IfOk, IfErr, IfSome, IsOk, OnOk, OnErr, false, map, max};
+ghost use Rattle.std.specs.Prelude.{◌≡◌, ◌≢◌, ◌+◌, ◌≤◌, ℕ, List, Some, Err, IfOk, IfErr, IfSome, IsOk, OnOk, OnErr, false, map, max};
 ghost use Rattle.std.specs.Arc.{arc_value};
 ghost use Rattle.std.specs.Io.KnownBytes.{Appends, IsAtEnd};
 ghost use Rattle.counted_io.specs.Counts.{count_after};

@@ -22,8 +22,9 @@ pub fn likeness()
         → IsFirstUnlike old new id → ¬ GoesOnFrom day old new }
 {}
 
-/// The new sheet goes on from a day exactly where it has the base of the old one and no change is listed of what the old
-/// one has in force before that day, nor of its commitments. Of two sheets there is one listing.
+/// Of sheets that meet the rules of a sheet, the new one goes on from a day exactly where it has the base of the old one
+/// and no change is listed of what the old one has in force before that day, nor of its commitments. Of any two sheets
+/// there is one listing.
 pub fn listed()
     ensures days { (old new : Sheet) (day : ℤ) → IsSheet old → IsSheet new
         → GoesOnFrom day old new ↔ ((new.base ≡ old.base) × ListsNoneBefore day old new) }
