@@ -10,5 +10,6 @@ mod words;
 
 pub use columns::FocusRow;
 pub use period_cut::{Cut, Period};
+pub use rating::PriceFinder;
 pub use regions::RegionColumns;
-pub use rows::{Billing, row};
+pub use rows::{Billing, row, row_at_price};

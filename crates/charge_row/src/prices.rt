@@ -1,6 +1,6 @@
 //! The columns of a price.
 
-ghost use Rattle.std.specs.Prelude.{◌≡◌, None, Some, codes, option_map};
+ghost use Rattle.std.specs.Prelude.{◌≡◌, None, codes, option_map};
 ghost use Rattle.std.specs.Option.{option_copied, option_map_or};
 ghost use Rattle.metering_model.specs.Sheet.{service_category_text};
 ghost use Rattle.metering_model.specs.Row.{by_kind};

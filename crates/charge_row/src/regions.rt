@@ -1,8 +1,8 @@
 //! The region of a row: its id, and the name that the sheet has of it.
 
-ghost use Rattle.std.specs.Prelude.{◌≡◌, None, Some};
+ghost use Rattle.std.specs.Prelude.{◌≡◌, None};
 ghost use Rattle.std.specs.Option.{option_copied};
-ghost use Rattle.metering_model.specs.Row.{or_null, region_of, region_name_of};
+ghost use Rattle.metering_model.specs.Row.{region_of, region_name_of};
 ghost use Rattle.rating.specs.Lent.{model_reading};
 ghost use Rattle.charge_row.specs.Regions.{IsNamed};
 

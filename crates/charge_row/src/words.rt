@@ -1,9 +1,8 @@
 //! The words of the standard that stand in a row.
 
-ghost use Rattle.std.specs.Prelude.{◌≡◌, None, Some, codes};
+ghost use Rattle.std.specs.Prelude.{◌≡◌, codes};
 ghost use Rattle.std.specs.Option.{option_copied};
 ghost use Rattle.metering_model.specs.Sheet.{service_category_text, commitment_category_text};
-ghost use Rattle.metering_model.specs.declared.ChargeClass.TheVariants.{New};
 ghost use Rattle.metering_model.specs.Row.{or_null, by_kind, category_text, class_text};
 
 use metering_model::{ChargeClass, CommitmentCategory, Kind, ServiceCategory};

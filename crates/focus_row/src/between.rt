@@ -1,21 +1,18 @@
 //! The rows between two cuts, batch by batch.
 
-ghost use Rattle.std.specs.Prelude.{◌≡◌, ◌≤◌, ◌-◌, ◌*◌, ◌<◌, [], length, map, slice_index_or, All, None, IfOk};
+ghost use Rattle.std.specs.Prelude.{◌≡◌, ◌≤◌, ◌-◌, ◌*◌, ◌<◌, [], length, map, slice_index_or, None, IfOk};
 ghost use Rattle.metering_model.specs.Limits.{most_records};
 ghost use Rattle.metering_model.specs.Cut.{IsAtLeast};
 ghost use Rattle.metering_model.specs.Holding.{up_to};
 ghost use Rattle.metering_model.specs.Rows.{rows};
 ghost use Rattle.metering_model.specs.Step.{first_missing};
 ghost use Rattle.metering_model.specs.JournalRules.{MeetsJournalRules};
-ghost use Rattle.journal_rules.specs.Stores.{position_of};
 ghost use Rattle.charge_row.specs.FocusRows.{model_row};
 ghost use Rattle.focus_row.specs.Rows.{joined};
-ghost use Rattle.focus_row.specs.Inner.Left.{IsWithin, MayBeCharged, rows_of_batch, rows_of_place};
 
 use crate::due_batches::BatchPlace;
 use crate::walk::BatchRows;
 use charge_row::{Billing, Cut, FocusRow, Period};
-use fx_money::Value;
 use journal_rules::{RecordPlace, Store};
 use price_sheet::{Issuer, Sheet};
 use std::alloc::{AllocError, Global};
@@ -78,7 +75,7 @@ pub struct RowsBetween<'a> {
 impl<'a> Model for RowsBetween<'a> {
     ghost use Rattle.std.specs.Prelude.{List, All, map};
     ghost use Rattle.metering_model.specs.Row.{Row};
-    ghost use Rattle.focus_row.specs.Inner.Left.{IsWithin, rows_of_batch, rows_of_place};
+    ghost use Rattle.focus_row.specs.Inner.Left.{IsWithin, rows_of_place};
 
     ghost Value = { List (List Row) };
 

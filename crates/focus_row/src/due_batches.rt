@@ -1,6 +1,6 @@
 //! Which batches have rows between two cuts.
 
-ghost use Rattle.std.specs.Prelude.{◌≡◌, ◌≤◌, ◌+◌, ◌-◌, ◌<◌, [], map, All, Some, None, IfOk, IfSome, IfNone};
+ghost use Rattle.std.specs.Prelude.{◌≡◌, ◌≤◌, ◌+◌, [], map, All, IfOk, IfSome, IfNone};
 ghost use Rattle.std.specs.List.{flat_map};
 ghost use Rattle.metering_model.specs.Limits.{most_records, most_agents, last_sequence};
 ghost use Rattle.metering_model.specs.Cut.{last_of};

@@ -1,7 +1,7 @@
 //! The rule on targets: an amendment names a reading that stands before it, so no amendment, and gives it a value that
 //! it takes.
 
-ghost use Rattle.std.specs.Prelude.{◌≡◌, false};
+ghost use Rattle.std.specs.Prelude.{◌≡◌};
 ghost use Rattle.std.specs.List.{slice_get};
 ghost use Rattle.std.specs.Option.{option_and_then};
 ghost use Rattle.metering_model.specs.Holding.{reading_of};

@@ -1,6 +1,6 @@
 //! What a charge comes to.
 
-ghost use Rattle.std.specs.Prelude.{◌≡◌, ◌<◌, pos};
+ghost use Rattle.std.specs.Prelude.{◌≡◌, pos};
 ghost use Rattle.metering_model.specs.Limits.{one_in_millionths};
 ghost use Rattle.metering_model.specs.Rating as model;
 
