@@ -52,6 +52,12 @@ returns c =
     let put-20 = one_more texts-19 c.as_slice-12.result.now _ _ c.in_ok-at-20.ensures.1 put-19 in
     let put-21 = one_more texts-20 c.as_slice-13.result.now _ _ c.in_ok-at-21.ensures.1 put-20 in
     let are : texts-21 ++ (10 ∷ []) ∷ [] ≡ piece_list c.args.self.now =
-    λ i. c.as_bytes.ensures.value i ∷ c.as_slice.ensures.value i ∷ c.as_slice-2.ensures.value i ∷ c.as_slice-3.ensures.value i ∷ c.as_bytes-2.ensures.value i ∷ c.as_slice-4.ensures.value i ∷ c.as_bytes-3.ensures.value i ∷ c.as_bytes-4.ensures.value i ∷ c.as_bytes-5.ensures.value i ∷ c.as_slice-5.ensures.value i ∷ c.as_bytes-6.ensures.value i ∷ c.as_bytes-7.ensures.value i ∷ c.as_slice-6.ensures.value i ∷ c.as_bytes-8.ensures.value i ∷ c.as_slice-7.ensures.value i ∷ c.as_slice-8.ensures.value i ∷ c.as_slice-9.ensures.value i ∷ c.as_slice-10.ensures.value i ∷ c.as_slice-11.ensures.value i ∷ c.as_slice-12.ensures.value i ∷ c.as_slice-13.ensures.value i ∷ (10 ∷ []) ∷ [] in
+    λ i. c.as_bytes.ensures.value i ∷ c.as_slice.ensures.value i ∷ c.as_slice-2.ensures.value i
+    ∷ c.as_slice-3.ensures.value i ∷ c.as_bytes-2.ensures.value i ∷ c.as_slice-4.ensures.value i
+    ∷ c.as_bytes-3.ensures.value i ∷ c.as_bytes-4.ensures.value i ∷ c.as_bytes-5.ensures.value i
+    ∷ c.as_slice-5.ensures.value i ∷ c.as_bytes-6.ensures.value i ∷ c.as_bytes-7.ensures.value i
+    ∷ c.as_slice-6.ensures.value i ∷ c.as_bytes-8.ensures.value i ∷ c.as_slice-7.ensures.value i
+    ∷ c.as_slice-8.ensures.value i ∷ c.as_slice-9.ensures.value i ∷ c.as_slice-10.ensures.value i
+    ∷ c.as_slice-11.ensures.value i ∷ c.as_slice-12.ensures.value i ∷ c.as_slice-13.ensures.value i ∷ (10 ∷ []) ∷ [] in
     IfSome_then c.put_at-22.result c.put_at-22.ensures
     (λ to put. (put.0, one_more texts-21 (10 ∷ []) _ _ put.1 put-21 ∙ ap (flat_map (λ t. t)) are))
