@@ -29,7 +29,8 @@ fn put_field_at(room: &mut [u8], at: usize, field: &[u8]) -> Option<usize>
     ensures { IfSome result (λ to. (to ≤ length room.new)
         × (take to room.new ≡ take at room.old ++ 44 ∷ quoted field.now)) }
 {
-    if is_cut(field) {
+    // A long field is not looked at twice.
+    if field.len() >= room.len() - at || is_cut(field) {
         return None;
     }
     let Some(from) = put_at(room, at, b",") else {
@@ -53,7 +54,7 @@ fn fill_piece(room: &mut [u8], fields: &[&[u8]]) -> Option<usize>
     Some(at)
 }
 
-/// Makes a piece that of these fields, each after a comma, of which any may be odd.
+/// Makes a piece that of these fields, each after a comma, of which any may be odd, and all together long.
 fn make_odd_piece(
     odd: &mut OddFields,
     piece: &mut Vec<u8>,

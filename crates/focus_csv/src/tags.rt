@@ -77,7 +77,7 @@ fn put_long_tag(
 /// A tag of no more bytes is put together on the stack, and so appended at once.
 const TAG_BYTES: usize = 128;
 
-/// The same of any plain tag.
+/// The same at once, where it has no more bytes than are put together on the stack.
 #[inline(always)]
 fn put_plain_tag(
     piece: &mut Vec<u8>,

@@ -1,6 +1,6 @@
 //! The prices of readings, one after the other.
 
-ghost use Rattle.std.specs.Prelude.{◌≡◌, if◌then◌else◌, None};
+ghost use Rattle.std.specs.Prelude.{◌≡◌, if◌then◌else◌, None, IsTrue};
 ghost use Rattle.std.specs.Option.{option_copied};
 ghost use Rattle.metering_model.specs.Batch.{is_priced};
 ghost use Rattle.metering_model.specs.Dates.{day_of};
@@ -22,8 +22,18 @@ struct Found<'s, 'k> {
     price: Option<&'s PriceRow>,
 }
 
-/// Finds the prices of readings in a sheet, one after the other. Neighbours mostly have the same key and day, so what was found last
-/// is kept, and the sheet is asked only where one of them differs. Its value is the sheet.
+/// Whether two keys are the same bytes, and there is one. Keys of one length mostly differ in their last byte, so that it is
+/// compared first.
+#[inline(always)]
+fn is_same_key(key: &[u8], other: &[u8]) -> bool
+    ensures { IsTrue result → key.now ≡ other.now }
+{
+    let count = key.len();
+    count == other.len() && count > 0 && key[count - 1] == other[count - 1] && key == other
+}
+
+/// Finds the prices of readings in a sheet, one after the other. What was looked up last is kept, and where the next reading has
+/// the same key and day, the sheet is not asked again. Its value is the sheet.
 #[derive(Drop)]
 pub struct PriceFinder<'s, 'k> {
     sheet: &'s Sheet,
@@ -61,7 +71,7 @@ impl<'s, 'k> PriceFinder<'s, 'k> {
     {
         let day = moment.day();
         if let Some(found) = &self.last {
-            if found.moment.day() == day && found.key == key {
+            if is_same_key(found.key, key) && found.moment.day() == day {
                 return found.price;
             }
         }
