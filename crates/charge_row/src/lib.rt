@@ -10,6 +10,5 @@ mod words;
 
 pub use columns::FocusRow;
 pub use period_cut::{Cut, Period};
-pub use rating::PriceFinder;
 pub use regions::RegionColumns;
-pub use rows::{Billing, row, row_at_price};
+pub use rows::{Billing, row};

@@ -140,37 +140,9 @@ fn row_by<'a>(
 }
 
 /// The row of a reading in the billing period, from an old value to a new one, neither negative for usage and
-/// purchases: at a price that is the one in force on the day of its start, under the commitment that it names and in its
-/// region.
+/// purchases: at the price in force on the day of its start, under the commitment that it names and in its region.
 ///
 /// `near` is any region's columns by this sheet, or none; the row is the same with each.
-pub fn row_at_price<'a>(
-    billing: &Billing<'a>,
-    sheet: &'a Sheet,
-    price: Option<&'a PriceRow>,
-    near: RegionColumns<'a>,
-    reading: &Reading<'a>,
-    class: ChargeClass,
-    was: Value,
-    now: Value,
-) -> FocusRow<'a>
-    requires was { is_priced reading.now.kind ≡ true → pos 0 ≤ℤ was }
-    requires value { is_priced reading.now.kind ≡ true → pos 0 ≤ℤ now }
-    requires near { IsNamed sheet.now (option_copied near.id) (option_copied near.name) }
-    requires price { option_copied price ≡ price_of sheet.now (model_reading reading.now) }
-    ensures row { (period : ℕ)
-        → ArePeriodTexts sheet.now.base period billing.now.start_text billing.now.end_text
-        → model_row result
-        ≡ row sheet.now billing.now.issuer.now (model_reading reading.now) period class was now }
-    ensures named { IsNamed sheet.now (option_copied result.region_id)
-        (option_copied result.region_name) }
-{
-    let commitment = commitment_of(sheet, reading);
-    let region = region_columns(sheet, reading, near);
-    row_by(billing, price, commitment, region, reading, class, was, now)
-}
-
-/// The same at the price that the sheet has: the one in force on the day of the reading's start.
 pub fn row<'a>(
     billing: &Billing<'a>,
     sheet: &'a Sheet,
@@ -191,5 +163,7 @@ pub fn row<'a>(
         (option_copied result.region_name) }
 {
     let price = price_of(sheet, reading);
-    row_at_price(billing, sheet, price, near, reading, class, was, now)
+    let commitment = commitment_of(sheet, reading);
+    let region = region_columns(sheet, reading, near);
+    row_by(billing, price, commitment, region, reading, class, was, now)
 }

@@ -1,6 +1,5 @@
 mod BeginningLaws
 mod CsvText
-mod EndsPut
 mod FileParts
 mod JsonText
 mod LineLaws

@@ -1,8 +1,8 @@
 -- What is put behind one another, one more at a time.
-use Rattle.std.proofs.Common.{◌≡◌, ℕ, ◌+◌, ◌<◌, Bool, true, false, not, List, [], ◌∷◌, ◌++◌, length, map, take, get_or, refl, sym, ap, ap₂, ◌∙◌, append_assoc, arith}
+use Rattle.std.proofs.Common.{◌≡◌, ℕ, ◌+◌, ◌<◌, ◌≤◌, Bool, true, false, not, List, [], ◌∷◌, ◌++◌, length, map, take, drop, get_or, refl, sym, ap, ap₂, ◌∙◌, append_assoc, arith}
 use Rattle.std.specs.List.{flat_map}
 use Rattle.std.specs.Str.{bytes_eq}
-use Rattle.std.proofs.lemmas.List.{append-nil, map-append, take_more}
+use Rattle.std.proofs.lemmas.List.{append-nil, length-append, map-append, take-append-drop, take_more}
 use Rattle.std.proofs.lemmas.Slice.Eq.{bytes_eq-Decides}
 use Rattle.std.proofs.lemmas.Grind.{flat_map-append}
 
@@ -35,10 +35,21 @@ put_more f g xs i default text old new lt is before =
     ∙ append_assoc text (flat_map f (map g (take i xs))) (f (g (get_or xs i default)))
     ∙ ap (λ t. text ++ t) (mapped_more f g xs i default lt)
 
--- one more text behind those that were put
-pub one_more : (texts : List (List ℕ)) (text old new : List ℕ) → new ≡ old ++ text → old ≡ flat_map (λ t. t) texts
-    → new ≡ flat_map (λ t. t) (texts ++ text ∷ [])
-one_more texts text old new is so_far = is ∙ ap (λ t. t ++ text) so_far ∙ each_more (λ t. t) texts text
+in_two : {X : Type 0} (f : List ℕ → List ℕ) (g : X → List ℕ) (xs : List X) (n : ℕ)
+    → flat_map f (map g xs) ≡ flat_map f (map g (take n xs)) ++ flat_map f (map g (drop n xs))
+in_two f g xs n =
+    ap (λ t. flat_map f (map g t)) (sym (take-append-drop n xs)) ∙ ap (flat_map f) (map-append g (take n xs) (drop n xs))
+    ∙ flat_map-append f (map g (take n xs)) (map g (drop n xs))
+
+-- those so far and one more are no longer than all
+pub no_longer : {X : Type 0} (f : List ℕ → List ℕ) (g : X → List ℕ) (xs : List X) (i : ℕ) (default : X) → i < length xs
+    → length (flat_map f (map g (take i xs))) + length (f (g (get_or xs i default))) ≤ length (flat_map f (map g xs))
+no_longer f g xs i default lt =
+    let so_far = flat_map f (map g (take i xs)) in
+    let next = f (g (get_or xs i default)) in
+    let front = flat_map f (map g (take (i + 1) xs)) in
+    let rest = flat_map f (map g (drop (i + 1) xs)) in
+    omega (arith, length-append so_far next, ap length (mapped_more f g xs i default lt), length-append front rest, ap length (in_two f g xs (i + 1)))
 
 -- ---- texts that are the same
 

@@ -9,7 +9,6 @@ use thiserror::Error;
 pub use whole::{row_texts, write_file};
 
 mod alike;
-mod copies;
 mod fields;
 mod files;
 pub mod laws;

@@ -1,15 +1,14 @@
 //! The pieces of one line, held for the next.
 
-ghost use Rattle.std.specs.Prelude.{◌≡◌, ◌≤◌, [], ◌∷◌, ◌++◌, length, map, take, false, IfSome, IsTrue, OnOk, OnErr};
+ghost use Rattle.std.specs.Prelude.{◌≡◌, [], ◌∷◌, ◌++◌, map, false, IsTrue, OnOk, OnErr};
 ghost use Rattle.metering_model.specs.Row.{Row};
 ghost use Rattle.metering_model.specs.File.{json_object, row_text};
 ghost use Rattle.focus_row.specs.Rows.{model_row};
-ghost use Rattle.focus_csv.specs.Inner.Pieces.{AreOf, line_bytes, line_of, piece_list};
+ghost use Rattle.focus_csv.specs.Inner.Pieces.{AreOf, line_bytes, piece_list};
 ghost use Rattle.focus_csv.specs.Inner.Runs.{behind};
 
 use crate::alike::are_alike;
-use crate::copies::put_at;
-use crate::fields::put_long;
+use crate::fields::put_pieces;
 use crate::numbers::NumberPieces;
 use crate::odd::OddFields;
 use crate::tags::set_tags;
@@ -126,61 +125,19 @@ impl LinePieces {
         ]
     }
 
-    /// Puts all pieces into room for a line, in its order, and its line feed, and returns how many bytes that are; None where
-    /// they find no room.
-    fn fill(&self, line: &mut [u8]) -> Option<usize>
-        ensures { IfSome result (λ count. (count ≤ length line.new)
-            × (take count line.new ≡ line_of self.now)) }
-    {
-        let at = put_at(line, 0, self.numbers.billed_cost.as_bytes())?;
-        let at = put_at(line, at, self.texts.billing.as_slice())?;
-        let at = put_at(line, at, self.texts.charge.as_slice())?;
-        let at = put_at(line, at, self.texts.moment.as_slice())?;
-        let at = put_at(line, at, self.numbers.consumed_quantity.as_bytes())?;
-        let at = put_at(line, at, self.texts.unit.as_slice())?;
-        let at = put_at(line, at, self.numbers.contracted_cost.as_bytes())?;
-        let at = put_at(line, at, self.numbers.contracted_unit_price.as_bytes())?;
-        let at = put_at(line, at, self.numbers.effective_cost.as_bytes())?;
-        let at = put_at(line, at, self.texts.issuer.as_slice())?;
-        let at = put_at(line, at, self.numbers.list_cost.as_bytes())?;
-        let at = put_at(line, at, self.numbers.list_unit_price.as_bytes())?;
-        let at = put_at(line, at, self.texts.category.as_slice())?;
-        let at = put_at(line, at, self.numbers.pricing_quantity.as_bytes())?;
-        let at = put_at(line, at, self.texts.pricing.as_slice())?;
-        let at = put_at(line, at, self.texts.seller.as_slice())?;
-        let at = put_at(line, at, self.texts.region.as_slice())?;
-        let at = put_at(line, at, self.texts.resource.as_slice())?;
-        let at = put_at(line, at, self.texts.service.as_slice())?;
-        let at = put_at(line, at, self.texts.account.as_slice())?;
-        let at = put_at(line, at, self.tags.as_slice())?;
-        put_at(line, at, b"\n")
-    }
-
-    /// Appends a long line, one piece after the other. At an allocation failure the text is as before.
-    fn put_long(&self, text: &mut Vec<u8>) -> Result<(), AllocError>
-        ensures put { OnOk result (text.new.items ≡ text.old.items ++ line_of self.now) }
-        ensures kept { OnErr result (text.new.items ≡ text.old.items) }
-    {
-        let begin = text.len();
-        match put_long(text, &self.all()) {
-            Ok(()) => Ok(()),
-            Err(error) => {
-                text.truncate(begin);
-                Err(error)
-            }
-        }
-    }
-
-    /// Appends the line, put together in room for one, so that the text's memory is asked for once. At an allocation failure
-    /// the text is as before.
+    /// Appends the line, put together in room for one. At an allocation failure the text is as before.
     pub(crate) fn put(&self, line: &mut [u8], text: &mut Vec<u8>) -> Result<(), AllocError>
         ensures put { OnOk result
             ((r : Row) → AreOf self.now r → text.new.items ≡ text.old.items ++ row_text r) }
         ensures kept { OnErr result (text.new.items ≡ text.old.items) }
     {
-        match self.fill(line) {
-            Some(count) => text.extend_from_slice(&line[..count]),
-            None => self.put_long(text),
+        let begin = text.len();
+        match put_pieces(line, text, &self.all()) {
+            Ok(()) => Ok(()),
+            Err(error) => {
+                text.truncate(begin);
+                Err(error)
+            }
         }
     }
 }

@@ -1,14 +1,13 @@
 //! Tags as the field of a JSON object. What is plain is copied, and an odd string is written by `serde_json` and `csv`.
 
-ghost use Rattle.std.specs.Prelude.{◌≡◌, ◌≤◌, ◌∷◌, [], ◌++◌, length, map, take, false, IfOk, IfSome, IsTrue, List, ℕ, OnOk};
+ghost use Rattle.std.specs.Prelude.{◌≡◌, ◌∷◌, [], ◌++◌, map, false, IfOk, IsTrue, List, ℕ, OnOk};
 ghost use Rattle.metering_model.specs.Batch.{is_text};
 ghost use Rattle.metering_model.specs.File.{json_member, json_object, json_string};
 ghost use Rattle.record_view.specs.Lent.{lent_tags};
 ghost use Rattle.record_view.specs.TagTexts.{tag_of};
 ghost use Rattle.focus_csv.specs.Inner.Runs.{behind};
-ghost use Rattle.focus_csv.specs.Inner.Strings.{doubled, is_odd, plain_tag};
+ghost use Rattle.focus_csv.specs.Inner.Strings.{is_odd, doubled};
 
-use crate::copies::put_at;
 use crate::odd::OddFields;
 use memchr::memchr2;
 use record_view::Tags;
@@ -25,29 +24,8 @@ fn is_odd(text: &[u8]) -> bool
 
 // ---- a tag, within the quotation marks of its field
 
-/// Puts a plain tag and what comes before it into room, and returns how many bytes that are; None where it finds no room.
-#[inline(always)]
-fn fill_tag(room: &mut [u8], begin: &[u8], key: &[u8], value: &[u8]) -> Option<usize>
-    ensures { IfSome result (λ count. (count ≤ length room.new)
-        × (take count room.new ≡ plain_tag begin.now key.now value.now)) }
-{
-    let Some(at) = put_at(room, 0, begin) else {
-        return None;
-    };
-    let Some(at) = put_at(room, at, key) else {
-        return None;
-    };
-    let Some(at) = put_at(room, at, b"\"\":\"\"") else {
-        return None;
-    };
-    let Some(at) = put_at(room, at, value) else {
-        return None;
-    };
-    put_at(room, at, b"\"\"")
-}
-
-/// Appends a plain tag of any length. What comes before it ends with the quotation mark of its key, which stands twice.
-fn put_long_tag(
+/// Appends a plain tag. What comes before it ends with the quotation mark of its key, which stands twice.
+fn put_plain_tag(
     piece: &mut Vec<u8>,
     begin: &[u8],
     key: &[u8],
@@ -72,30 +50,6 @@ fn put_long_tag(
         return Err(AllocError);
     };
     piece.extend_from_slice(b"\"\"")
-}
-
-/// A tag of no more bytes is put together on the stack, and so appended at once.
-const TAG_BYTES: usize = 128;
-
-/// The same at once, where it has no more bytes than are put together on the stack.
-#[inline(always)]
-fn put_plain_tag(
-    piece: &mut Vec<u8>,
-    begin: &[u8],
-    key: &[u8],
-    value: &[u8],
-) -> Result<(), AllocError>
-    requires key { is_odd key.now ≡ false }
-    requires value { is_odd value.now ≡ false }
-    ensures { OnOk result ((front : List ℕ) → begin.now ≡ front ++ 34 ∷ 34 ∷ []
-        → piece.new.items ≡ piece.old.items
-        ++ (front ++ doubled (json_member (record { key = key.now; value = value.now })))) }
-{
-    let mut room = [0; TAG_BYTES];
-    match fill_tag(&mut room, begin, key, value) {
-        Some(count) => piece.extend_from_slice(&room[..count]),
-        None => put_long_tag(piece, begin, key, value),
-    }
 }
 
 /// A text as a string, as `serde_json` writes it.

@@ -21,7 +21,7 @@ ghost use Rattle.focus_row.specs.Inner.Near.{AreNamed};
 use crate::between::BetweenCuts;
 use crate::places::is_named;
 use batch_view::{BatchView, Reading, Record};
-use charge_row::{FocusRow, PriceFinder, RegionColumns, row, row_at_price};
+use charge_row::{FocusRow, RegionColumns, row};
 use fx_money::Value;
 use journal_rules::RecordPlace;
 use metering_model::ChargeClass;
@@ -122,17 +122,15 @@ impl<'a> BetweenCuts<'a> {
         Ok(())
     }
 
-    /// Puts the row of a record after the others, where it has one. The region of the row before is near, and a price is
-    /// found among those of the sheet. At an allocation failure the rows are as before.
+    /// Puts the row of a record after the others, where it has one. The region of the row before is near. At an
+    /// allocation failure the rows are as before.
     fn put_row(
         &self,
         rows: &mut Vec<FocusRow<'a>>,
-        prices: &mut PriceFinder<'a, 'a>,
         place: RecordPlace,
         what: &Record<'a>,
     ) -> Result<(), AllocError>
         requires near { AreNamed self.now.sheet rows.old.items }
-        requires prices { prices.old ≡ self.now.sheet }
         requires place { IsUpTo self.now.agents self.now.to (position_of place) }
         requires there { record_at self.now.batches (position_of place)
             ≡ Some (record_of what.now) }
@@ -141,7 +139,6 @@ impl<'a> BetweenCuts<'a> {
             self.now.from self.now.to (position_of place) (record_of what.now))
             rows.old.items rows.new.items) }
         ensures kept { OnErr result (rows.new.items ≡ rows.old.items) }
-        ensures prices { prices.new ≡ prices.old }
     {
         let Record::Reading(reading) = what else {
             return Ok(());
@@ -154,12 +151,10 @@ impl<'a> BetweenCuts<'a> {
         // some 750 bytes, is not copied once more.
         let nothing = Value::new(0).unwrap();
         let now = self.value(place, self.to.get(place.agent));
-        let price = prices.price_of(reading);
         if rows
-            .push(row_at_price(
+            .push(row(
                 &self.billing,
                 self.sheet,
-                price,
                 near,
                 reading,
                 ChargeClass::New,
@@ -193,7 +188,6 @@ impl<'a> BetweenCuts<'a> {
         ensures begins { BeginsWith rows.new.items rows.old.items }
     {
         let count = batch.count();
-        let mut prices = PriceFinder::new(self.sheet);
         for index in from..count {
             if rows.len() >= limit {
                 return Ok(index);
@@ -202,7 +196,7 @@ impl<'a> BetweenCuts<'a> {
                 unreachable!()
             };
             let place = RecordPlace { agent, seq, index };
-            self.put_row(rows, &mut prices, place, &record)?;
+            self.put_row(rows, place, &record)?;
         }
         Ok(count)
     }

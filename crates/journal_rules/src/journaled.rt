@@ -14,7 +14,7 @@ use crate::prices::is_fit_reading;
 use crate::targets::{comes_earlier, has_fit_target};
 use batch_store::{Asked, BatchView, OwnedBatch, RecordPlace, Store, Value};
 use metering_model::BrokenRule;
-use rating::{PriceFinder, Sheet};
+use rating::Sheet;
 use std::marker::Model;
 
 /// The batch of an agent at a sequence, where there is a store and it has one.
@@ -101,24 +101,16 @@ impl<'a> Journaled<'a> {
         }
     }
 
-    /// The rule that a record at a place breaks, by what is asked of it. Its price is found in that sheet.
-    fn broken_by<'k>(
-        &self,
-        sheet: &Sheet,
-        prices: &mut PriceFinder<'_, 'k>,
-        place: RecordPlace,
-        what: &Asked<'k>,
-    ) -> Option<BrokenRule>
+    /// The rule that a record at a place breaks, by what is asked of it.
+    fn broken_by(&self, sheet: &Sheet, place: RecordPlace, what: &Asked<'_>) -> Option<BrokenRule>
         requires from { 1 ≤ place.agent }
         requires to { place.agent ≤ self.now.agents }
-        requires prices { prices.old ≡ sheet.now }
-        ensures broken { result ≡ broken_by sheet.now self.now.batches (position_of place)
+        ensures { result ≡ broken_by sheet.now self.now.batches (position_of place)
             (record_asked what.now) }
-        ensures kept { prices.new ≡ prices.old }
     {
         match what {
             Asked::Reading(reading) => {
-                if is_fit_reading(sheet, prices, reading) {
+                if is_fit_reading(sheet, reading) {
                     None
                 } else {
                     Some(BrokenRule::Unpriced)
@@ -151,11 +143,10 @@ impl<'a> Journaled<'a> {
         let seq = self.batch.seq();
         // For the proof alone: its clause says that a batch has at most 1,000 records.
         let _count = self.batch.count();
-        let mut prices = PriceFinder::new(sheet);
         let mut index = 0;
         for asked in self.batch.asked() {
             let place = RecordPlace { agent, seq, index };
-            if let Some(rule) = self.broken_by(sheet, &mut prices, place, &asked) {
+            if let Some(rule) = self.broken_by(sheet, place, &asked) {
                 return Some((index, rule));
             }
             index += 1;

@@ -8,7 +8,7 @@ ghost use Rattle.batch_store.specs.Asked.{reading_asked};
 use batch_store::AskedReading;
 use byte_text::is_same;
 use metering_model::Kind;
-use rating::{PriceFinder, Sheet, commitment_for, is_priced};
+use rating::{Sheet, commitment_for, is_priced, price_for};
 
 /// Whether the reading names no commitment, or one that fits it: usage its SKU, a purchase the SKU that buys it.
 fn has_fit_commitment(sheet: &Sheet, reading: &AskedReading<'_>) -> bool
@@ -25,19 +25,11 @@ fn has_fit_commitment(sheet: &Sheet, reading: &AskedReading<'_>) -> bool
     }
 }
 
-/// Whether a reading of a priced kind has a price in force, and a fit commitment. Its price is found in that sheet.
-pub(crate) fn is_fit_reading<'k>(
-    sheet: &Sheet,
-    prices: &mut PriceFinder<'_, 'k>,
-    reading: &AskedReading<'k>,
-) -> bool
-    requires { prices.old ≡ sheet.now }
-    ensures fit { result ≡ is_fit_reading sheet.now (reading_asked reading.now) }
-    ensures kept { prices.new ≡ prices.old }
+/// Whether a reading of a priced kind has a price in force, and a fit commitment.
+pub(crate) fn is_fit_reading(sheet: &Sheet, reading: &AskedReading<'_>) -> bool
+    ensures { result ≡ is_fit_reading sheet.now (reading_asked reading.now) }
 {
     !is_priced(reading.kind)
-        || (prices
-            .price_for(reading.kind, reading.key, reading.start)
-            .is_some()
+        || (price_for(sheet, reading.kind, reading.key, reading.start).is_some()
             && has_fit_commitment(sheet, reading))
 }

@@ -3,7 +3,6 @@
 #![tactic(auto)]
 
 mod charges;
-mod price_finder;
 mod prices;
 mod rated;
 mod rounding;
@@ -11,7 +10,6 @@ mod rounding;
 pub use charges::rate;
 pub use fx_money::{Cost, Delta, Price, Value};
 pub use metering_model::PricedKind;
-pub use price_finder::PriceFinder;
 pub use price_sheet::Sheet;
 pub use prices::{commitment_for, commitment_of, is_priced, price_for, price_of, priced_kind};
 pub use rated::{Rated, rate_flat};

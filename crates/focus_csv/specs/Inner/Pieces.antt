@@ -1,6 +1,5 @@
 -- The pieces of a line that are those of a row.
 use Rattle.std.specs.Prelude.{◌≡◌, ℕ, false, IsTrue, List, [], ◌∷◌, ◌++◌, Option, MatchOption, string_bytes}
-use Rattle.std.specs.List.{flat_map}
 use Rattle.metering_model.specs.NumberText.{spelling}
 use Rattle.metering_model.specs.File.{json_object, price_or_null, quantity_or_null, quoted}
 use Rattle.metering_model.specs.Row.{Row}
@@ -33,10 +32,6 @@ piece_list p =
     ∷ p.texts.issuer.items ∷ string_bytes p.numbers.list_cost ∷ string_bytes p.numbers.list_unit_price ∷ p.texts.category.items
     ∷ string_bytes p.numbers.pricing_quantity ∷ p.texts.pricing.items ∷ p.texts.seller.items ∷ p.texts.region.items ∷ p.texts.resource.items
     ∷ p.texts.service.items ∷ p.texts.account.items ∷ p.tags.items ∷ (10 ∷ []) ∷ []
-
--- the pieces, one behind the other
-abbrev pub line_of : LinePieces → List ℕ
-line_of p = flat_map (λ t. t) (piece_list p)
 
 pub record AreTextsOf (p : TextPieces) (r : Row) : Type 0 where
   pub billing : p.billing.items ≡ behind (billing_columns r)

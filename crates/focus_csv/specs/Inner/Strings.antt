@@ -1,5 +1,5 @@
 -- Strings of JSON within a quoted field.
-use Rattle.std.specs.Prelude.{ℕ, Bool, not, ◌||◌, ◌==◌, List, [], ◌∷◌, ◌++◌}
+use Rattle.std.specs.Prelude.{ℕ, Bool, not, ◌||◌, ◌==◌, List}
 use Rattle.std.specs.List.{list_all, list_any}
 use Rattle.metering_model.specs.Batch.{Tag}
 use Rattle.metering_model.specs.File.{marked}
@@ -15,7 +15,3 @@ doubled t = marked (λ c. c == 34) 34 t
 -- no key and no value of these is odd
 abbrev pub are_plain : List Tag → Bool
 are_plain ts = list_all (λ t. not (is_odd t.key || is_odd t.value)) ts
-
--- a tag behind what comes before it, within a quoted field, where no byte of it is odd
-abbrev pub plain_tag : List ℕ → List ℕ → List ℕ → List ℕ
-plain_tag begin key value = (((begin ++ key) ++ 34 ∷ 34 ∷ 58 ∷ 34 ∷ 34 ∷ []) ++ value) ++ 34 ∷ 34 ∷ []

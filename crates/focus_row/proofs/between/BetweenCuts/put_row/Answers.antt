@@ -7,7 +7,7 @@ use Rattle.charge_row.specs.Regions.{IsNamed}
 use Rattle.metering_model.specs.Cut.{last_of}
 use Rattle.metering_model.specs.ValueAtSequence.{value_at}
 use Rattle.metering_model.specs.declared.ChargeClass.TheVariants.{New}
-use Rattle.metering_model.specs.Row.{price_of, row}
+use Rattle.metering_model.specs.Row.{row}
 use Rattle.metering_model.specs.Rows.{row_of}
 use Rattle.journal_rules.specs.Stores.{position_of}
 use Rattle.focus_row.specs.Inner.Beginnings.{IsPutBehind}
@@ -71,25 +71,20 @@ value-now-requires-clause-there c =
 pub value-now-requires-clause-upto : goal.value-now-requires-clause-upto
 value-now-requires-clause-upto c = to_reaches c.self.invariant.0 c.self.view_is _ c.get-2.ensures.value
 
-pub row_at_price-requires-clause-was : goal.row_at_price-requires-clause-was
-row_at_price-requires-clause-was c priced = nothing_fits (nothing c.new.ensures.within c.unwrap-nothing.ensures)
+pub row-requires-clause-was : goal.row-requires-clause-was
+row-requires-clause-was c priced = nothing_fits (nothing c.new.ensures.within c.unwrap-nothing.ensures)
 
-pub row_at_price-requires-clause-value : goal.row_at_price-requires-clause-value
-row_at_price-requires-clause-value c priced =
+pub row-requires-clause-value : goal.row-requires-clause-value
+row-requires-clause-value c priced =
     let place = position_of c.args.place in
     c.value-now.ensures.not_negative (model_reading c.in-Reading.reading)
     (reading_there c.args.self.now.batches place (model_reading c.in-Reading.reading)
     (subst (λ w. record_at c.args.self.now.batches place ≡ Some (record_of w)) c.in-Reading.is c.requires.there)) priced
 
-pub row_at_price-requires-clause-near : goal.row_at_price-requires-clause-near
-row_at_price-requires-clause-near c =
+pub row-requires-clause-near : goal.row-requires-clause-near
+row-requires-clause-near c =
     subst (λ (b : Between). IsNamed b.sheet (option_copied c.last_region-near.result.id) (option_copied c.last_region-near.result.name)) (sym c.self.view_is)
     (c.last_region-near.ensures.named c.args.self.now.sheet (subst (λ rows. AreNamed c.args.self.now.sheet rows) (sym c.deref.ensures.value) c.requires.near))
-
-pub row_at_price-requires-clause-price : goal.row_at_price-requires-clause-price
-row_at_price-requires-clause-price c =
-    c.price_of-price.ensures.price
-    ∙ ap (λ s. price_of s (model_reading c.in-Reading.reading)) (c.requires.prices ∙ ap (λ (b : Between). b.sheet) (sym c.self.view_is))
 
 pub returns-then-is_err-clause-kept : goal.returns-then-is_err-clause-kept
 returns-then-is_err-clause-kept c = kept_if _ _ _ c.push.ensures.items c.is_err.ensures.negation c.if-is_err.true
@@ -101,10 +96,10 @@ returns-clause-put c =
     let reading = model_reading c.in-Reading.reading in
     let now : c.value-now.result ≡ value_at s.batches place (last_of s.to place.agent) =
     c.value-now.ensures.value ∙ ap (value_at s.batches place) (c.get-2.ensures.value ∙ ap (λ (b : Between). last_of b.to place.agent) c.self.view_is) in
-    let charged : model_row c.row_at_price.result ≡ row s.sheet s.issuer reading s.period New c.unwrap-nothing.result c.value-now.result =
-    subst (λ (b : Between). model_row c.row_at_price.result ≡ row b.sheet b.issuer reading b.period New c.unwrap-nothing.result c.value-now.result) c.self.view_is
-    (c.row_at_price.ensures.row c.self.inside.period c.self.invariant.1) in
+    let charged : model_row c.row.result ≡ row s.sheet s.issuer reading s.period New c.unwrap-nothing.result c.value-now.result =
+    subst (λ (b : Between). model_row c.row.result ≡ row b.sheet b.issuer reading b.period New c.unwrap-nothing.result c.value-now.result) c.self.view_is
+    (c.row.ensures.row c.self.inside.period c.self.invariant.1) in
     let is = row_whole s place reading _ _ _ (place_high place c.self.view_is c.get.ensures.value c.if-place-get.false) (nothing c.new.ensures.within c.unwrap-nothing.ensures) now charged in
-    put_behind c.row_at_price.result (put_if _ _ _ c.push.ensures.items c.is_err.ensures.negation c.if-is_err.false)
-    (subst (λ w. Some (model_row c.row_at_price.result) ≡ row_of s.sheet s.issuer s.batches s.period s.from s.to place (record_of w)) (sym c.in-Reading.is) is) c.requires.near
-    (subst (λ (b : Between). IsNamed b.sheet (option_copied c.row_at_price.result.region_id) (option_copied c.row_at_price.result.region_name)) c.self.view_is c.row_at_price.ensures.named)
+    put_behind c.row.result (put_if _ _ _ c.push.ensures.items c.is_err.ensures.negation c.if-is_err.false)
+    (subst (λ w. Some (model_row c.row.result) ≡ row_of s.sheet s.issuer s.batches s.period s.from s.to place (record_of w)) (sym c.in-Reading.is) is) c.requires.near
+    (subst (λ (b : Between). IsNamed b.sheet (option_copied c.row.result.region_id) (option_copied c.row.result.region_name)) c.self.view_is c.row.ensures.named)

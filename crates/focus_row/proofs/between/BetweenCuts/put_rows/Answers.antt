@@ -1,14 +1,12 @@
-use Rattle.std.proofs.Common.{◌+◌, drop, refl, ap, ◌∙◌, arith}
+use Rattle.std.proofs.Common.{◌+◌, drop, refl, arith}
 use Rattle.batch_view.specs.Batches.{batch_of}
 use Rattle.batch_view.specs.Lent.{record_of}
-use Rattle.focus_row.specs.Inner.Left.{Between}
 use Rattle.focus_row.proofs.RowBeginnings.{begins_itself, begins_longer}
 use Rattle.focus_row.proofs.StopLaws.{left_at, next_record, one_row_more}
 use Rattle.focus_row.proofs.between.BetweenCuts.put_rows.Goals as goal
 
 pub loop-index-init : goal.loop-index-init
-loop-index-init c =
-    (c.requires.near, refl, λ same. refl, λ few. few, begins_itself _, c.new-prices.ensures ∙ ap (λ (b : Between). b.sheet) c.self.view_is)
+loop-index-init c = (c.requires.near, refl, λ same. refl, λ few. few, begins_itself _)
 
 pub put_row-requires-clause-near : goal.put_row-requires-clause-near
 put_row-requires-clause-near c = c.loop-index.invariant.0
@@ -23,5 +21,4 @@ loop-index-preserved c =
       λ same. absurd (omega arith),
       λ few. let more = one_row_more _ c.loop-index.rows.items c.put_row.new.rows.items c.in_ok-put_row.ensures.put.row in omega arith,
       begins_longer _ _ _ c.in_ok-put_row.ensures.put.begins c.loop-index.invariant.4,
-      c.put_row.ensures.prices ∙ c.loop-index.invariant.5,
     )

@@ -8,7 +8,7 @@ use Rattle.focus_row.proofs.between.BetweenCuts.put_rows.Given as goal
 
 -- Each row so far has its region's name, those so far with those of the records that are left are all of them, and before the
 -- first record there is none more. There are no more than the limit, if there were no more at the start, and they begin with
--- those at the start. Prices are found in the sheet.
+-- those at the start.
 abbrev pub invariant-loop-index : goal.invariant-loop-index
 invariant-loop-index l =
     AreNamed l.self.sheet l.rows.items
@@ -17,4 +17,3 @@ invariant-loop-index l =
     × (l.index ≡ l.from → length l.rows.items ≡ length l.initial.rows.items)
     × (length l.initial.rows.items ≤ l.limit → length l.rows.items ≤ l.limit)
     × BeginsWith l.rows.items l.initial.rows.items
-    × (l.prices ≡ l.self.sheet)

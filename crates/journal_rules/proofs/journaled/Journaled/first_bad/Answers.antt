@@ -19,7 +19,6 @@ loop-asked-init c =
     record {
       can_next = tt;
       is_finite = tt;
-      prices = c.new-prices.ensures;
       batch = batch;
       index = index;
       rest =

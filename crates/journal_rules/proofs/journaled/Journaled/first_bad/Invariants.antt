@@ -12,7 +12,6 @@ abbrev pub invariant-loop-asked : goal.invariant-loop-asked
 invariant-loop-asked l = record {
   can_next : (goal.iterator-loop-asked).can_next l.asked-iterator;
   is_finite : (goal.iterator-loop-asked).is_finite l.asked-iterator;
-  prices : l.prices ≡ l.sheet;
   batch : batch_of l.asked-iterator.bytes ≡ l.self.batch;
   index : l.asked-iterator.index ≡ l.index;
   rest : first_broken l.sheet l.self.batches (placed l.self.batch)

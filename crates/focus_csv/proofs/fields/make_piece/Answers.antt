@@ -2,7 +2,7 @@
 use Rattle.std.proofs.Common.{◌<◌, [], ◌∷◌, length, rules, arith}
 use Rattle.metering_model.specs.File.{quoted}
 use Rattle.focus_csv.proofs.OneMore.{put_more}
-use Rattle.focus_csv.proofs.fields.make_odd_piece.Goals as goal
+use Rattle.focus_csv.proofs.fields.make_piece.Goals as goal
 
 pub loop-field-preserved : goal.loop-field-preserved
 loop-field-preserved c =
