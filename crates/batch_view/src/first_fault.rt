@@ -1,6 +1,6 @@
 //! The first fault of a batch.
 
-ghost use Rattle.std.specs.Prelude.{◌≡◌, ◌≤◌, ◌<◌, ◌+◌, length, drop, Some, Ok, Err, IsOk, MatchResult};
+ghost use Rattle.std.specs.Prelude.{◌≡◌, ◌≤◌, ◌+◌, length, drop, Err, IsOk, MatchResult};
 ghost use Rattle.metering_model.specs.BatchReading.{batch_in, lines_in, records_in};
 ghost use Rattle.metering_model.specs.Limits.{most_batch_bytes};
 ghost use Rattle.batch_view.specs.Inner.Lines.{lines_from, first_record, BeginsWithHead, IsBehindLines, LendsRecord, IsHeadOf};

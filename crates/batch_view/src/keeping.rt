@@ -1,6 +1,6 @@
 //! A batch is read once, and what is found is kept.
 
-ghost use Rattle.std.specs.Prelude.{◌≡◌, ◌≤◌, ◌+◌, length, drop, Err, MatchResult};
+ghost use Rattle.std.specs.Prelude.{◌≡◌, ◌≤◌, length, drop, Err, MatchResult};
 ghost use Rattle.metering_model.specs.BatchReading.{batch_in, lines_in, records_in};
 ghost use Rattle.metering_model.specs.Limits.{most_batch_bytes};
 ghost use Rattle.batch_view.specs.Inner.Lines.{BeginsWithHead, IsBehindLines};

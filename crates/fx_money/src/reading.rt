@@ -1,6 +1,6 @@
 //! Decimals of six places, read without taking memory: each text is looked at where it stands.
 
-ghost use Rattle.std.specs.Prelude.{◌≡◌, ◌-◌, ◌<◌, ◌≤◌, ◌^◌, IsTrue, IfSome, IsSome, Some, MatchOption, false, position, length, take};
+ghost use Rattle.std.specs.Prelude.{◌≡◌, ◌-◌, ◌<◌, ◌≤◌, ◌^◌, IsTrue, IfSome, IsSome, Some, MatchOption, position, length, take};
 ghost use Rattle.std.specs.List.{list_all, before_first, after_first};
 ghost use Rattle.metering_model.specs.NumberText.{is_digit, is_point, is_whole_part, is_decimal_part, ends_in, number_of, worth_of, units_of, magnitude_in, negated, not_negated, value_limit, value_within, value_in};
 ghost use Rattle.fx_money.specs.Inner.Leading.{AreLeading};

@@ -1,7 +1,7 @@
 //! How a node learns the cut of its current period.
 ghost use Rattle.std.specs.Prelude.{◌≡◌, ℕ, ◌<◌, length, IfOk, OnErr, None};
 ghost use Rattle.std.specs.Arc.{arc_value};
-ghost use Rattle.metering_model.specs.World.{Accepted, Decided, current_period};
+ghost use Rattle.metering_model.specs.World.{Accepted, Decided};
 ghost use Rattle.group_node.specs.Handling.{Does};
 
 use crate::nodes::Node;

@@ -1,7 +1,7 @@
 //! Which nodes vote. An observer promises, accepts and proposes nothing; of a period that it has learned it tells the
 //! cut.
 
-ghost use Rattle.std.specs.Prelude.{◌≡◌, ◌<◌, nat_lt};
+ghost use Rattle.std.specs.Prelude.{◌≡◌, nat_lt};
 
 use crate::nodes::Node;
 

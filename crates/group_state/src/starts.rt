@@ -1,7 +1,7 @@
 //! A node begins a ballot of its own, or restarts.
 
 ghost use Rattle.std.specs.Prelude.{◌≡◌, ◌<◌, Err, length, map, IfOk, OnErr, MatchResult};
-ghost use Rattle.metering_model.specs.World.{Prepare, Restart, Start, Started};
+ghost use Rattle.metering_model.specs.World.{Restart, Start};
 ghost use Rattle.metering_model.specs.Step.{on_start, step};
 ghost use Rattle.metering_model.specs.Limits.{most_packets, most_rounds};
 ghost use Rattle.group_node.specs.Packets.{packet_of};

@@ -8,7 +8,7 @@ ghost use Rattle.metering_model.specs.BatchReading.{batch_in, fields_in, whole_i
 ghost use Rattle.metering_model.specs.Limits.{most_journal_lines};
 ghost use Rattle.batch_view.specs.Batches.{batch_of};
 ghost use Rattle.group_node.specs.Packets.{packet_of};
-ghost use Rattle.packet_text.specs.PacketText.{HasPacketText, accept_in, accepted_in, batch_packet_in, decided_in, is_group, is_stored_word, line_packet_in, may_take_memory, packet_in, prepare_in, promise_in, sent_cut_in, sent_vote_in, some_vote_in, word_packet_in};
+ghost use Rattle.packet_text.specs.PacketText.{HasPacketText, accept_in, accepted_in, batch_packet_in, decided_in, is_stored_word, line_packet_in, may_take_memory, packet_in, prepare_in, promise_in, sent_cut_in, sent_vote_in, some_vote_in, word_packet_in};
 ghost use Rattle.packet_text.specs.Inner.Heads.{HasHead, HasNoHead};
 ghost use Rattle.packet_text.specs.Inner.Numbers.{numbers_in, sent_in};
 ghost use Rattle.packet_text.specs.Inner.Unread.{IfNoMemory, IfNoPacket};

@@ -1,6 +1,6 @@
 //! The rule of each field of a record.
 
-ghost use Rattle.std.specs.Prelude.{◌≡◌, ◌<◌, ◌≤◌, map, IsTrue, OnOk, IfOk, IfErr, MatchResult, Ok, Err, true, false, ℤ};
+ghost use Rattle.std.specs.Prelude.{◌≡◌, ◌≤◌, map, IsTrue, OnOk, IfOk, IfErr, MatchResult, Ok, Err, ℤ};
 ghost use Rattle.metering_model.specs.FirstFailure.{holds_or};
 ghost use Rattle.metering_model.specs.Batch.{is_priced, is_text};
 ghost use Rattle.metering_model.specs.BatchReading.{kind_in};

@@ -1,6 +1,6 @@
 //! A reading that was read before, made again from where its fields stand.
 
-ghost use Rattle.std.specs.Prelude.{◌<◌, All, take, Some};
+ghost use Rattle.std.specs.Prelude.{◌<◌, All, take};
 ghost use Rattle.record_view.specs.Parts.{lent};
 ghost use Rattle.record_view.specs.Spans.{IsReadingOn, IsRecordAt};
 ghost use Rattle.record_view.specs.Inner.Placed.{IsPlaced};

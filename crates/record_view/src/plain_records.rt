@@ -1,13 +1,13 @@
 //! The quick reader of a plain record, which leaves any other to the exact one.
 
-ghost use Rattle.std.specs.Prelude.{◌≡◌, ◌≢◌, ◌<◌, ◌∷◌, OnOk, IfOk, IfErr, IfSome, IfNone, Ok, Err, false, ℕ, List, codes};
+ghost use Rattle.std.specs.Prelude.{◌≡◌, ◌≢◌, ◌∷◌, OnOk, IfOk, IfErr, IfSome, IfNone, Ok, false, ℕ, List, codes};
 ghost use Rattle.metering_model.specs.Batch as model;
 ghost use Rattle.metering_model.specs.declared.Version.TheVariants.{B1};
 ghost use Rattle.metering_model.specs.BatchReading.{is_same, record_in};
 ghost use Rattle.record_view.specs.Parts.{LentText, AreLentApart, lent, parts_at};
 ghost use Rattle.record_view.specs.Inner.Placed.{IsPlaced, texts_of};
 ghost use Rattle.record_view.specs.Lent.{record_of, record_texts, lent_fields};
-ghost use Rattle.record_view.specs.Inner.LineFields.{reading_parts, field_texts, record_of_reading, in_region, HaveStamps, ArePlainFields, IsPlainRest, IsPlainBehind};
+ghost use Rattle.record_view.specs.Inner.LineFields.{reading_parts, field_texts, record_of_reading, HaveStamps, ArePlainFields, IsPlainRest, IsPlainBehind};
 
 use crate::exact::ReadingFields;
 use crate::field_rules::{

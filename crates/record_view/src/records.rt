@@ -1,7 +1,6 @@
 //! The records of a batch.
 
-ghost use Rattle.std.specs.Prelude.{◌≡◌, ◌<◌, ◌≤◌, length, slice_range, IfOk, IfErr, IfSome, IfNone, Ok, Err};
-ghost use Rattle.metering_model.specs.declared.Version.TheVariants.{B1, B2};
+ghost use Rattle.std.specs.Prelude.{◌≡◌, ◌≤◌, length, slice_range, IfOk, IfErr, IfSome, IfNone, Ok, Err};
 ghost use Rattle.metering_model.specs.BatchReading.{record_in, fields_in};
 ghost use Rattle.metering_model.specs.Limits.{most_batch_bytes};
 ghost use Rattle.record_view.specs.Parts.{lent};

@@ -1,6 +1,6 @@
 //! The region at the end of a record's line.
 
-ghost use Rattle.std.specs.Prelude.{◌≡◌, ◌<◌, ◌∷◌, [], IsTrue, IfOk, IfErr, IfSome, IfNone, Ok, Err, false, ℕ, List, codes};
+ghost use Rattle.std.specs.Prelude.{◌≡◌, ◌∷◌, [], IsTrue, IfOk, IfErr, IfSome, IfNone, Ok, Err, false, ℕ, List, codes};
 ghost use Rattle.metering_model.specs.Batch.{is_text};
 ghost use Rattle.metering_model.specs.declared.Version.TheVariants.{B1, B2};
 ghost use Rattle.metering_model.specs.BatchReading.{is_same, record_in};

@@ -1,6 +1,6 @@
 //! The events of a schedule, one line or one journal at a time.
 
-ghost use Rattle.std.specs.Prelude.{◌≡◌, ◌≢◌, ◌≤◌, ℕ, List, Ok, Err, Some, length, codes, option_map, IfOk, IfErr, IfSome, MatchResult};
+ghost use Rattle.std.specs.Prelude.{◌≡◌, ◌≢◌, ◌≤◌, ℕ, List, Ok, Err, length, codes, option_map, IfOk, IfErr, IfSome, MatchResult};
 ghost use Rattle.metering_model.specs.Limits.{last_period, last_node, last_packet, most_input_bytes, most_revival_lines};
 ghost use Rattle.metering_model.specs.Schedule.{PlansDelivery, PlansStart, PlansRestart, PlansExport, PlansKeep};
 ghost use Rattle.schedule_reader.specs.Events.{EndsAt, HasWholeLines, StandsFrom, lines_of, planned_of};
