@@ -7,14 +7,14 @@ ghost use Rattle.focus_csv.specs.Inner.Beginnings.{BeginsWith};
 ghost use Rattle.focus_csv.specs.Inner.Runs.{behind};
 
 use crate::odd::OddFields;
-use crate::quoting::is_cut;
+use crate::quoting::needs_quotes;
 use std::alloc::AllocError;
 
 /// Appends a comma and a field. It is copied, unless it is odd.
 fn put_next(odd: &mut OddFields, text: &mut Vec<u8>, field: &[u8]) -> Result<(), AllocError>
     ensures { OnOk result (text.new.items ≡ text.old.items ++ 44 ∷ quoted field.now) }
 {
-    if is_cut(field) {
+    if needs_quotes(field) {
         return odd.put_next(text, field);
     }
     text.push(b',')?;

@@ -76,7 +76,7 @@ fn is_short_cut(field: &[u8]) -> bool
 
 /// Whether a reader of CSV would cut a field.
 #[inline(always)]
-pub(crate) fn is_cut(field: &[u8]) -> bool
+pub(crate) fn needs_quotes(field: &[u8]) -> bool
     ensures { result ≡ list_any is_special field.now }
 {
     if field.len() >= LANES {

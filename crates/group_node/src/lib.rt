@@ -7,9 +7,9 @@ mod exporting;
 mod handling;
 mod learning;
 mod nodes;
-mod observers;
 mod packets;
 mod proposing;
+mod voters;
 mod voting;
 
 pub use nodes::Node;

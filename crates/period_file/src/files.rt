@@ -14,8 +14,8 @@ ghost use Rattle.period_file.specs.Files.{IsFileOf, IsRefusal, WritesAtFault, fi
 ghost use Rattle.period_file.specs.Inner.Calls.{CopiesWithin};
 ghost use Rattle.period_file.specs.Inner.Reading.{Copies, CopiesAhead, EndsUntold, Finds, Stops, StopsAhead};
 
-use crate::counts::{next_told, words_above};
 use crate::faults::FileFault;
+use crate::lines_above::{next_told, words_above};
 use counted_io::{Sink, Source, write_all};
 use line_source::{SourceFault, Unread, line_end, lines_in_front};
 use period_cut::Period;

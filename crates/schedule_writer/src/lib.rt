@@ -10,6 +10,7 @@ mod drafts;
 mod faults;
 mod inputs;
 mod judging;
+mod last_closed;
 pub mod laws;
 mod lines;
 mod plans;

@@ -1,17 +1,16 @@
 //! `focusd schedule`: from batches to a schedule that closes their months.
 
-ghost use Rattle.std.specs.Prelude.{◌≡◌, ◌≢◌, ◌+◌, ◌≤◌, ℕ, List, Some, Err, IfOk, IfErr, IfSome, IsOk, OnOk, OnErr, false, map, max};
+ghost use Rattle.std.specs.Prelude.{◌≡◌, ◌≢◌, ◌+◌, ◌≤◌, ℕ, List, Some, Err, IfOk, IfErr, IfSome, IsOk, OnOk, OnErr, false, map};
 ghost use Rattle.std.specs.Arc.{arc_value};
 ghost use Rattle.std.specs.Io.KnownBytes.{Appends, IsAtEnd};
 ghost use Rattle.counted_io.specs.Counts.{count_after};
 ghost use Rattle.counted_io.specs.Reading.{ConsumesAtMost};
 ghost use Rattle.counted_io.specs.Streams.{UsesStreams};
 ghost use Rattle.counted_io.specs.Writing.{AppendsPrefix};
-ghost use Rattle.metering_model.specs.Limits.{last_period, most_input_bytes};
+ghost use Rattle.metering_model.specs.Limits.{most_input_bytes};
 ghost use Rattle.metering_model.specs.Transcript.{line};
 ghost use Rattle.fault_lines.specs.Told.{said_of_fault};
 ghost use Rattle.schedule_writer.specs.Faults.{TellsFaults, tells_of_reader, tells_of_writer};
-ghost use Rattle.schedule_writer.specs.Inputs.{above_last, least_last};
 ghost use Rattle.schedule_writer.specs.Requests.{IsRequest};
 ghost use Rattle.schedule_writer.specs.Schedules.{IsScheduleOf};
 ghost use Rattle.schedule_writer.specs.Inner.Certified.{IsCertified};
@@ -24,6 +23,7 @@ use crate::certifying::certify;
 use crate::drafting::schedule_for;
 use crate::faults::{Stop, WriteFault};
 use crate::judging::{Items, read_items, refused};
+use crate::last_closed::{last_closed, least_last};
 use crate::plans::Plan;
 use counted_io::{Sink, Source, write_all};
 use fault_lines::put_fault;
@@ -32,45 +32,6 @@ use price_sheet::{Issuer, Sheet};
 use schedule_player::{PlayFault, read_input};
 use std::alloc::Global;
 use std::sync::Arc;
-
-/// How many batches stand above the last line that closes a period; 0 where there is none.
-fn above_last(closes: &[usize]) -> usize
-    ensures { result ≡ above_last closes.now }
-{
-    closes.last().copied().unwrap_or(0)
-}
-
-/// The period that is closed last for the sake of the lines that close one: that of the last of them; or the one after, where none
-/// is asked for and a batch stands below it.
-fn least_last(through: Option<u16>, count: usize, closes: &[usize]) -> usize
-    ensures { result ≡ least_last through count closes.now }
-{
-    match through {
-        Some(_) => closes.len().saturating_sub(1),
-        None => {
-            if above_last(closes) < count {
-                closes.len()
-            } else {
-                closes.len().saturating_sub(1)
-            }
-        }
-    }
-}
-
-/// The last period that is closed: the one that is asked for, or the other, where that is later. None where that is no period.
-fn last_closed(asked: u16, least: usize) -> Option<u16>
-    requires { asked ≤ last_period }
-    ensures { IfSome result (λ last. (last ≡ max asked least) × (last ≤ last_period)) }
-{
-    if least <= usize::from(asked) {
-        return Some(asked);
-    }
-    if least <= 1_199 {
-        Some(least as u16)
-    } else {
-        None
-    }
-}
 
 /// The text of a schedule, where it stands the test.
 fn certified_text(

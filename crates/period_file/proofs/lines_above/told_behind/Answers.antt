@@ -6,7 +6,7 @@ use Rattle.metering_model.specs.BatchReading.{is_same}
 use Rattle.metering_model.proofs.FieldLaws.{same_read}
 use Rattle.transcript_laws.specs.FirstFiles.{told_behind}
 use Rattle.transcript_laws.proofs.FirstFileLaws.{parts_told}
-use Rattle.period_file.proofs.counts.told_behind.Goals as goal
+use Rattle.period_file.proofs.lines_above.told_behind.Goals as goal
 
 counted : (number n : ℕ) (r : Option ℕ) → MatchOption r (4_294_967_297 < number) (λ k. (k ≡ number) × (k ≤ 4_294_967_297)) → n ≡ unwrap_or r 4_294_967_297 → n ≡ min 4_294_967_297 number
 counted number n None many is = omega (arith, many, is)

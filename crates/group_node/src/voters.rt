@@ -1,5 +1,5 @@
-//! Which nodes vote. An observer promises, accepts and proposes nothing; of a period that it has learned it tells the
-//! cut.
+//! Which nodes vote: all but the observers. What one of these answers stands beside what a voter does, in `voting.rt`
+//! and `proposing.rt`.
 
 ghost use Rattle.std.specs.Prelude.{◌≡◌, nat_lt};
 

@@ -7,7 +7,7 @@ use Rattle.line_source.specs.Faults.{tells_of_source}
 use Rattle.line_source.specs.declared.faults.SourceFault.{SourceFault}
 use Rattle.line_source.proofs.Taking.{reads_on, takes_line, takes_on}
 use Rattle.period_file.proofs.Passing.{ended_untold, few_untold, line_told, part_untold, passed_untold, untold_on}
-use Rattle.period_file.proofs.counts.next_told.Goals as goal
+use Rattle.period_file.proofs.lines_above.next_told.Goals as goal
 
 -- ---- for what the search finds too, and takes long for
 
