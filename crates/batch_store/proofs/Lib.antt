@@ -6,6 +6,7 @@ pub mod LeastAbsent
 pub mod LastDue
 pub mod LastGiven
 pub mod OwnValue
+pub mod AmendedValues
 pub mod Members
 pub mod NamedPlaces
 pub mod NamedBetween

@@ -1,5 +1,5 @@
 -- A reading is given a value by its own batch, so that its value at each sequence from its own on is what some batch gives.
-use Rattle.std.proofs.Common.{◌≡◌, ℕ, zero, suc, ◌+◌, ◌<◌, ◌≤◌, Bool, true, false, List, [], ◌∷◌, map, refl, sym, ap, subst, ◌∙◌, arith, Option, Some, None, ℤ, pos, unwrap_or, is_some}
+use Rattle.std.proofs.Common.{◌≡◌, ℕ, zero, suc, ◌+◌, ◌-◌, ◌<◌, ◌≤◌, Bool, true, false, List, [], ◌∷◌, map, refl, sym, ap, subst, ◌∙◌, arith, Option, Some, None, ℤ, pos, unwrap_or, is_some}
 use Rattle.std.specs.Prelude.{nat_lt, slice_get, ◌↔◌, IsSome, IfSome}
 use Rattle.std.specs.List.{enumerate_from, filter_map, cons_option, last_or}
 use Rattle.std.specs.Option.{option_or, option_and_then, option_map}
@@ -13,7 +13,7 @@ use Rattle.metering_model.proofs.RecordPlaces.{same_position}
 use Rattle.metering_model.proofs.ValueBounds.{same_place_itself}
 use Rattle.batch_view.specs.Kept.{kind_in, value_given_in}
 use Rattle.batch_store.specs.Inner.Values.{last_given}
-use Rattle.batch_store.proofs.LastGiven.{is_some-last_or, found_at}
+use Rattle.batch_store.proofs.LastGiven.{is_some-last_or, found_at, last_given-held}
 
 abbrev place_in : Batch → ℕ × Record → Placed
 place_in b e = record { place = record { agent = b.agent; seq = b.seq; index = e.0 }; what = e.1 }
@@ -96,3 +96,32 @@ own-last h p upto b later v q is at there so_far none value =
     not_later : (o : Option ℤ) → is_some o ≡ false → option_or o (last_given h p p.seq) ≡ last_given h p p.seq
     not_later None e = refl
     not_later (Some x) e = absurd (cc)
+
+-- ---- the reading of a batch that is held
+
+-- The record of a reading that is there is in the batch that is held,
+pub record_held : (h : Holding) (p : Position) (b : Batch) (r : Reading) → held h p.agent p.seq ≡ Some b → reading_at h p ≡ Some r → slice_get b.records p.index ≡ Some (Reads r)
+record_held h p b r at found = from_record (slice_get b.records p.index) (sym (ap (option_and_then (λ (x : Batch). option_and_then reading_of (slice_get x.records p.index))) at) ∙ found)
+  where
+    from_record : (o : Option Record) → option_and_then reading_of o ≡ Some r → o ≡ Some (Reads r)
+    from_record None e = absurd (cc)
+    from_record (Some (Reads x)) e = ap (option_map Reads) e
+    from_record (Some (Amends s i v)) e = absurd (cc)
+
+own_some : (p : Position) (b : Batch) (r : Reading) → p.agent ≡ b.agent → p.seq ≡ b.seq → slice_get b.records p.index ≡ Some (Reads r) → is_some (value_given_in b p.seq p.index) ≡ true
+own_some p b r agent seq got =
+    given_by_reading (record { agent = b.agent; seq = p.seq; index = p.index }) b 0 p.index b.records None refl seq (omega arith) (ap (λ o. is_some (option_and_then reading_of o)) got)
+
+-- and what was given up to its own sequence, that batch gave it.
+pub own_given : (h : Holding) (p : Position) (b : Batch) (r : Reading) → IsHolding h → held h p.agent p.seq ≡ Some b → slice_get b.records p.index ≡ Some (Reads r) → last_given h p p.seq ≡ value_given_in b p.seq p.index
+own_given h p b r is at got =
+    let place = held_place h p.agent p.seq b at in
+    let first = (held_well h p.agent p.seq b is.batches at).seq.0 in
+    let next : p.seq ≡ p.seq - 1 + 1 = omega (arith, first, place.1) in
+    ap (last_given h p) next
+    ∙ (last_given-held h p (p.seq - 1) b is (subst (λ n. Some b ≡ held h p.agent n) next (sym at))
+    ∙ some_or (value_given_in b p.seq p.index) (last_given h p (p.seq - 1)) (own_some p b r (sym place.0) (sym place.1) got))
+  where
+    some_or : (o q : Option ℤ) → is_some o ≡ true → option_or o q ≡ o
+    some_or None q e = absurd (cc)
+    some_or (Some v) q e = refl

@@ -1,9 +1,10 @@
 -- What a store is, and what is asked of it.
-use Rattle.std.specs.Prelude.{ℕ, ◌≤◌, ◌&&◌, ◌||◌, ◌==◌, Bool, true, nat_lt, nat_le, if◌then◌else◌, List, [], ◌∷◌, All, IsTrue, Option, Some, None, ◌↔◌}
+use Rattle.std.specs.Prelude.{◌≡◌, ℕ, ℤ, unwrap_or, slice_index_or, ◌≤◌, ◌&&◌, ◌||◌, ◌==◌, Bool, true, nat_lt, nat_le, if◌then◌else◌, List, [], ◌∷◌, All, IsTrue, Option, Some, None, ◌↔◌}
 use Rattle.std.specs.List.{filter_map, Contains}
-use Rattle.metering_model.specs.Batch.{Record, Reads, Amends}
+use Rattle.metering_model.specs.Batch.{Reading, Record, Reads, Amends}
 use Rattle.metering_model.specs.Cut.{Cut, last_of}
-use Rattle.metering_model.specs.Holding.{Holding, IsHolding, Position, records_in_order}
+use Rattle.metering_model.specs.Holding.{Holding, IsHolding, Position, reading_at, records_in_order}
+use Rattle.metering_model.specs.ValueAtSequence.{value_at}
 use Rattle.metering_model.specs.Limits.{most_agents}
 use Rattle.batch_store.specs.declared.RecordPlace.{RecordPlace}
 
@@ -51,3 +52,9 @@ pub record AreAmended (h : Holding) (from to : Cut) (ps : List Position) : Type 
 -- a place without its number types
 abbrev pub position_of : RecordPlace → Position
 position_of p = record { agent = p.agent; seq = p.seq; index = p.index }
+
+-- For each reading of that batch the value at its index, or else its own, is what it is worth as of `upto`.
+abbrev pub AreAmendedValues : Holding → ℕ → ℕ → ℕ → List (Option ℤ) → Type 0
+AreAmendedValues h agent seq upto values =
+    (index : ℕ) (r : Reading) → reading_at h (record { agent = agent; seq = seq; index = index }) ≡ Some r
+    → unwrap_or (slice_index_or values index None) r.value ≡ value_at h (record { agent = agent; seq = seq; index = index }) upto

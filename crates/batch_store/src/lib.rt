@@ -3,6 +3,7 @@
 
 mod amended;
 mod amenders;
+mod batch_values;
 mod fronts;
 mod indexed;
 pub mod laws;

@@ -3,7 +3,7 @@ use Rattle.std.proofs.Common.{◌≡◌, ℕ, zero, suc, ◌+◌, ◌<◌, ◌�
 use Rattle.std.specs.List.{slice_get, filter_map, enumerate_from, cons_option, last_or, Contains}
 use Rattle.std.proofs.lemmas.Bool.{eqb-true, eq-eqb, and_parts, and_from}
 use Rattle.std.proofs.lemmas.List.Sorted.{Contains-permutation, IsPermutation-sym}
-use Rattle.metering_model.specs.Batch.{Batch, Record, Reads, Amends}
+use Rattle.metering_model.specs.Batch.{Batch, Record, Reading, Reads, Amends}
 use Rattle.metering_model.specs.Holding.{is_same_place}
 use Rattle.metering_model.specs.ValueAtSequence.{value_given, value_given_by}
 use Rattle.batch_view.specs.Kept.{amendment_of, amendments_in, AreAmendmentsOf, value_given_in}
@@ -170,6 +170,15 @@ module _ (b : Batch) (sorted : List Amendment) (are : AreAmendmentsOf b sorted) 
         later j (Reads r) l e = quiet_record j (Reads r) (λ h. omega (arith, h.1, l))
         later j (Amends s i w) l e = quiet_record j (Amends s i w) (λ h. named_at (λ a. ⊥) none j s i w e h.0 h.1)
 
+    -- A reading keeps its own value where all of the batch's own amendments of it stand above it.
+    pub own_kept : (v : ℤ) → All (λ a. Names seq index a → a.own ≤ index) sorted → HasReading b seq index v → Some v ≡ value_given_in b seq index
+    own_kept v above has =
+        sym (last_given b seq index 0 b.records None index (Reads has.reading) v has.got (giving index (Reads has.reading) (has.own, refl) ∙ ap Some (sym has.value_is)) quiet)
+      where
+        quiet : Quiet index
+        quiet j (Reads r) l e = quiet_record j (Reads r) (λ h. omega (arith, h.1, l))
+        quiet j (Amends s i w) l e = quiet_record j (Amends s i w) (λ h. let at = named_at (λ a. a.own ≤ index) above j s i w e h.0 h.1 in omega (arith, at, l))
+
     module _ (last : Amendment) (is_last : IsLastNamed sorted seq index last) where
       by_last : Quiet last.own → Some last.value ≡ value_given_in b seq index
       by_last quiet =
@@ -200,3 +209,7 @@ module _ (b : Batch) (sorted : List Amendment) (are : AreAmendmentsOf b sorted) 
           quiet : Quiet index
           quiet j (Reads r) l e = quiet_record j (Reads r) (λ h. omega (arith, h.1, l))
           quiet j (Amends s i w) l e = quiet_record j (Amends s i w) (λ h. not_behind j s i w (omega (arith, l, before)) e h.0 h.1)
+
+-- Where a batch amends nothing, its readings keep their values.
+pub own_alone : (b : Batch) (k : ℕ) (r : Reading) → AreAmendmentsOf b [] → slice_get b.records k ≡ Some (Reads r) → value_given_in b b.seq k ≡ Some r.value
+own_alone b k r are got = sym (own_kept b [] are b.seq k r.value (λ j d less. absurd (omega (arith, less))) (record { reading = r; own = refl; got = got; value_is = refl }))

@@ -11,3 +11,4 @@ pub mod NamedLemmas
 pub mod EntryLaws
 pub mod PackedLaws
 pub mod GivenLaws
+pub mod FilledLaws

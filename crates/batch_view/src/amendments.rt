@@ -100,7 +100,7 @@ pub(crate) fn sorted_amendments(
 }
 
 /// How many of sorted amendments name this position or one before it.
-fn end_of_position(sorted: &[Amendment], seq: u32, index: u16) -> usize
+pub(crate) fn end_of_position(sorted: &[Amendment], seq: u32, index: u16) -> usize
     requires { IsNonDecreasingBy rank sorted.now }
     ensures within { result ≤ length sorted.now }
     ensures point { IsPointOf seq index sorted.now result }

@@ -14,6 +14,7 @@ mod batch;
 mod bytes;
 mod entries;
 mod extents;
+mod filling;
 mod first_fault;
 mod head;
 mod keeping;

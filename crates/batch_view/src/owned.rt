@@ -1,8 +1,10 @@
 //! Batches that keep their bytes.
 
-ghost use Rattle.std.specs.Prelude.{◌≡◌, ◌↔◌, ◌<◌, ◌≤◌, ℕ, length, take, Ok, Err, IfOk, IfErr, IfSome, IsSome, None, Some, MatchOption, MatchResult};
+ghost use Rattle.std.specs.Prelude.{◌≡◌, ◌↔◌, ◌<◌, ◌≤◌, ℕ, ℤ, length, take, Ok, Err, IfOk, IfErr, IfSome, IsSome, None, Some, MatchOption, MatchResult};
 ghost use Rattle.std.specs.Arc.{arc_value};
-ghost use Rattle.std.specs.List.{list_all, slice_range};
+ghost use Rattle.std.specs.List.{list_all, slice_get, slice_index_or, slice_range};
+ghost use Rattle.std.specs.Option.{option_or};
+ghost use Rattle.metering_model.specs.Batch.{Reading as ModelReading, Reads};
 ghost use Rattle.metering_model.specs.BatchReading.{batch_in};
 ghost use Rattle.metering_model.specs.Front.{starts_before};
 ghost use Rattle.batch_view.specs.Batches.{batch_of};
@@ -18,6 +20,7 @@ use crate::batch::BatchView;
 use crate::bytes::BatchBytes;
 use crate::entries::{Found, entry_at, field_total};
 use crate::extents::first_batch;
+use crate::filling::fill_named;
 use crate::first_fault::check_batch;
 use crate::head::Head;
 use crate::keeping::{Unkept, keep_batch, keep_below};
@@ -118,6 +121,27 @@ impl OwnedBatch {
             }
             None => Some(amendment.value),
         }
+    }
+
+    /// Fills in what the batch gives the readings of its agent's batch at `seq`, at their indexes, where nothing stands.
+    /// A reading of its own need not be given the value that it has by itself. Of its amendments those are looked at
+    /// that name `seq`, after a search.
+    pub fn fill_given(&self, seq: u32, values: &mut [Option<Value>])
+        ensures length { length values.new ≡ length values.old }
+        ensures kept { (k : ℕ) (v : ℤ) → k < length values.old
+            → slice_index_or values.old k None ≡ Some v
+            → slice_index_or values.new k None ≡ Some v }
+        ensures later { (seq ≡ (batch_of self.now).seq → ⊥)
+            → (k : ℕ) → k < length values.old → slice_index_or values.new k None
+            ≡ option_or (slice_index_or values.old k None)
+            (value_given_in (batch_of self.now) seq k) }
+        ensures own { seq ≡ (batch_of self.now).seq → (k : ℕ) (r : ModelReading)
+            → k < length values.old → slice_get (batch_of self.now).records k ≡ Some (Reads r)
+            → option_or (slice_index_or values.new k None) (Some r.value)
+            ≡ option_or (slice_index_or values.old k None)
+            (value_given_in (batch_of self.now) seq k) }
+    {
+        fill_named(&self.amendments, seq, seq == self.head.seq, values);
     }
 
     /// The value of the reading at that sequence and index, if it is one of the batch itself.

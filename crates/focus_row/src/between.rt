@@ -21,6 +21,7 @@ use std::marker::Model;
 /// What is charged between two cuts, and by what.
 #[derive(Drop)]
 pub(crate) struct BetweenCuts<'a> {
+    pub(crate) alloc: Global,
     pub(crate) store: &'a Store,
     pub(crate) sheet: &'a Sheet,
     pub(crate) billing: Billing<'a>,
@@ -165,6 +166,7 @@ pub fn rows_between<'a>(
     // For the proof alone: its clause says that the agents are 1 to 64, and their batches a holding.
     let _agents = store.agents();
     let cuts = BetweenCuts {
+        alloc,
         store,
         sheet,
         billing: Billing::new(issuer, sheet.base_month(), period),

@@ -17,8 +17,10 @@ ghost use Rattle.charge_row.specs.Regions.{IsNamed};
 ghost use Rattle.focus_row.specs.Inner.Left.{IsUpTo, IsWalk, WalksOn, record_at};
 ghost use Rattle.focus_row.specs.Inner.Beginnings.{BeginsWith, IsPutBehind};
 ghost use Rattle.focus_row.specs.Inner.Near.{AreNamed};
+ghost use Rattle.focus_row.specs.Inner.NewValues.{AreNewValues};
 
 use crate::between::BetweenCuts;
+use crate::new_values::value_in;
 use crate::places::is_named;
 use batch_view::{BatchView, Reading, Record};
 use charge_row::{FocusRow, RegionColumns, row};
@@ -129,11 +131,13 @@ impl<'a> BetweenCuts<'a> {
         rows: &mut Vec<FocusRow<'a>>,
         place: RecordPlace,
         what: &Record<'a>,
+        values: &[Option<Value>],
     ) -> Result<(), AllocError>
         requires near { AreNamed self.now.sheet rows.old.items }
         requires place { IsUpTo self.now.agents self.now.to (position_of place) }
         requires there { record_at self.now.batches (position_of place)
             ≡ Some (record_of what.now) }
+        requires values { AreNewValues self.now place.agent place.seq values.now }
         ensures put { OnOk result (IsPutBehind self.now.sheet
             (row_of self.now.sheet self.now.issuer self.now.batches self.now.period
             self.now.from self.now.to (position_of place) (record_of what.now))
@@ -150,7 +154,7 @@ impl<'a> BetweenCuts<'a> {
         // A reading above `from` is charged whole. The call stands here, and in no function of its own, so that the row,
         // some 750 bytes, is not copied once more.
         let nothing = Value::new(0).unwrap();
-        let now = self.value(place, self.to.get(place.agent));
+        let now = value_in(values, place.index, reading);
         if rows
             .push(row(
                 &self.billing,
@@ -175,6 +179,7 @@ impl<'a> BetweenCuts<'a> {
         &self,
         rows: &mut Vec<FocusRow<'a>>,
         batch: &BatchView<'a>,
+        values: &[Option<Value>],
         agent: u8,
         seq: u32,
         from: u16,
@@ -182,6 +187,7 @@ impl<'a> BetweenCuts<'a> {
     ) -> Result<u16, AllocError>
         requires near { AreNamed self.now.sheet rows.old.items }
         requires walk { IsWalk self.now agent seq from (batch_of batch.now) }
+        requires values { AreNewValues self.now agent seq values.now }
         ensures on { IfOk result
             (λ to. WalksOn self.now agent seq (batch_of batch.now) from to limit
             rows.old.items rows.new.items) }
@@ -196,7 +202,7 @@ impl<'a> BetweenCuts<'a> {
                 unreachable!()
             };
             let place = RecordPlace { agent, seq, index };
-            self.put_row(rows, place, &record)?;
+            self.put_row(rows, place, &record, values)?;
         }
         Ok(count)
     }

@@ -60,7 +60,8 @@ impl<'a> BetweenCuts<'a> {
         else {
             return Err(AllocError);
         };
-        self.put_rows(&mut rows, &batch, agent, seq, 0, usize::MAX)?;
+        let values = self.new_values(agent, seq)?;
+        self.put_rows(&mut rows, &batch, &values, agent, seq, 0, usize::MAX)?;
         Ok(rows)
     }
 

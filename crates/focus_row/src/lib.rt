@@ -5,6 +5,7 @@ mod between;
 mod corrections;
 mod due_batches;
 pub mod laws;
+mod new_values;
 mod places;
 mod walk;
 mod whole;

@@ -7,6 +7,7 @@ ghost use Rattle.focus_row.specs.Inner.Left.{IsWithin, rows_of_batch};
 use crate::between::BetweenCuts;
 use batch_view::BatchView;
 use charge_row::FocusRow;
+use fx_money::Value;
 use std::alloc::AllocError;
 use std::marker::Model;
 
@@ -20,15 +21,18 @@ pub struct BatchRows<'b, 'a> {
     batch: BatchView<'a>,
     agent: u8,
     seq: u32,
+    /// What amendments give the batch's readings, once it was asked for.
+    values: Option<Vec<Option<Value>>>,
     /// The first record whose row was not made.
     index: u16,
 }
 
 impl<'b, 'a> Model for BatchRows<'b, 'a> {
-    ghost use Rattle.std.specs.Prelude.{◌-◌, length};
+    ghost use Rattle.std.specs.Prelude.{◌-◌, IfSome, length};
     ghost use Rattle.batch_view.specs.Batches.{batch_of};
     ghost use Rattle.focus_row.specs.Rows.{RowsLeft};
     ghost use Rattle.focus_row.specs.Inner.Left.{IsWalk, rows_behind};
+    ghost use Rattle.focus_row.specs.Inner.NewValues.{AreNewValues};
 
     ghost Value = { RowsLeft };
 
@@ -37,7 +41,8 @@ impl<'b, 'a> Model for BatchRows<'b, 'a> {
       records = length (batch_of w.batch).records - w.index;
     } };
 
-    ghost invariant = { λ w. IsWalk w.cuts.now w.agent w.seq w.index (batch_of w.batch) };
+    ghost invariant = { λ w. IsWalk w.cuts.now w.agent w.seq w.index (batch_of w.batch)
+        × IfSome w.values (λ values. AreNewValues w.cuts.now w.agent w.seq values.items) };
 }
 
 impl<'b, 'a> BatchRows<'b, 'a> {
@@ -51,6 +56,7 @@ impl<'b, 'a> BatchRows<'b, 'a> {
             batch: cuts.store.batch_at(agent, seq),
             agent,
             seq,
+            values: None,
             index: 0,
         }
     }
@@ -77,10 +83,21 @@ impl<'b, 'a> BatchRows<'b, 'a> {
         rows.clear();
         let left = usize::from(self.batch.count() - self.index);
         rows.reserve_exact(left.min(MOST))?;
-        let Ok(to) = self
-            .cuts
-            .put_rows(rows, &self.batch, self.agent, self.seq, self.index, MOST)
-        else {
+        let values = match self.values.take() {
+            Some(values) => values,
+            None => self.cuts.new_values(self.agent, self.seq)?,
+        };
+        let made = self.cuts.put_rows(
+            rows,
+            &self.batch,
+            &values,
+            self.agent,
+            self.seq,
+            self.index,
+            MOST,
+        );
+        self.values = Some(values);
+        let Ok(to) = made else {
             rows.clear();
             return Err(AllocError);
         };

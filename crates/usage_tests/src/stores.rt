@@ -1,6 +1,6 @@
 //! A store that is filled and asked where memory runs out.
 
-use batch_store::{Cut, Period, RecordPlace, Store};
+use batch_store::{Cut, Period, RecordPlace, Store, Value};
 use batch_view::{Offer, OwnedBatch};
 use std::alloc::{AllocError, Global};
 use std::sync::Arc;
@@ -12,7 +12,7 @@ use worked_texts::{AMENDED, READ};
 const AMENDED_TWICE: &[u8] = b"B1|1|3|2\nX|1|0|3600\nX|1|0|5400\n";
 
 /// Amendments after a gap, so many that the list of what they and the others name grows twice.
-const AHEAD: &[u8] = b"B1|1|5|3\nX|1|0|7200\nX|1|0|3600\nX|1|0|5400\n";
+const AHEAD: &[u8] = b"B1|1|5|3\nX|1|0|7200\nX|1|0|3600\nX|1|0|1800\n";
 
 /// What comes of these bytes.
 pub(crate) fn offered(alloc: Global, bytes: &[u8]) -> Result<Offer, AllocError> {
@@ -197,6 +197,24 @@ fn names_again(store: &Store, alloc: Global, one: &Cut, five: &Cut) -> bool {
     }
 }
 
+/// Whether amendments up to a sequence give the first batch's readings these values, asked for again where the first
+/// call finds no memory.
+fn values_again(
+    store: &Store,
+    alloc: Global,
+    upto: u32,
+    values: &[Option<Value>],
+) -> Result<bool, Fail> {
+    if store.agents() != 1 || upto < 1 || store.get(1, 1).is_none() {
+        return Ok(false);
+    }
+    let found = match store.amended_values(alloc, 1, 1, upto) {
+        Ok(found) => found,
+        Err(_) => store.amended_values(alloc, 1, 1, upto)?,
+    };
+    Ok(found.as_slice() == values)
+}
+
 /// Whether each batch is put again where the first call finds no memory.
 fn fills_again(store: &mut Store, alloc: Global) -> Result<bool, Fail> {
     let mut all = true;
@@ -218,6 +236,16 @@ fn answers_again(store: &Store, alloc: Global) -> bool {
         }
         None => false,
     }
+}
+
+/// Whether amendments give the first batch's reading no value up to its own sequence, and up to each later one that of
+/// the last.
+fn values_told_again(store: &Store, alloc: Global) -> Result<bool, Fail> {
+    let none = values_again(store, alloc, 1, &[])?;
+    let second = values_again(store, alloc, 2, &[Value::new(7_200_000_000)])?;
+    let third = values_again(store, alloc, 4, &[Value::new(5_400_000_000)])?;
+    let fifth = values_again(store, alloc, 5, &[Value::new(1_800_000_000)])?;
+    Ok(none && second && third && fifth)
 }
 
 /// The offer of these bytes, or of those that the first call gives back where it finds no memory.
@@ -263,7 +291,8 @@ fn a_refused_growth_of_a_store_changes_nothing(rt: HostRuntime) -> Result<(), Fa
     };
     let is_filled = fills_again(&mut store, alloc)?;
     let is_answered = answers_again(&store, alloc);
-    assert!(rt; is_filled && is_answered);
+    let are_told = values_told_again(&store, alloc)?;
+    assert!(rt; is_filled && is_answered && are_told);
     Ok(())
 }
 

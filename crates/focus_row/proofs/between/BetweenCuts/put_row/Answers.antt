@@ -1,5 +1,4 @@
-use Rattle.std.proofs.Common.{◌≡◌, Some, option_copied, sym, ap, subst, ◌∙◌}
-use Rattle.std.specs.Option.{is_some}
+use Rattle.std.proofs.Common.{◌≡◌, Some, option_copied, refl, sym, ap, subst}
 use Rattle.std.specs.Result.{OnOk}
 use Rattle.batch_view.specs.Lent.{model_reading, record_of}
 use Rattle.charge_row.specs.FocusRows.{model_row}
@@ -11,10 +10,11 @@ use Rattle.metering_model.specs.Row.{row}
 use Rattle.metering_model.specs.Rows.{row_of}
 use Rattle.journal_rules.specs.Stores.{position_of}
 use Rattle.focus_row.specs.Inner.Beginnings.{IsPutBehind}
-use Rattle.focus_row.specs.Inner.Left.{Between, record_at}
+use Rattle.focus_row.specs.Inner.Left.{Between, MayBeCharged, record_at}
 use Rattle.focus_row.specs.Inner.Near.{AreNamed}
-use Rattle.focus_row.proofs.ReachLaws.{agent_of_from, agent_of_to, to_reaches, place_low, place_high, reading_there, nothing, nothing_fits, row_whole}
+use Rattle.focus_row.proofs.ReachLaws.{agent_of_from, place_low, place_high, reading_there, nothing, nothing_fits, row_whole}
 use Rattle.focus_row.proofs.RowBeginnings.{put_behind, put_none, put_if, kept_if}
+use Rattle.focus_row.proofs.NewValueLaws.{worth, worth_at_to}
 use Rattle.focus_row.proofs.between.BetweenCuts.put_row.Goals as goal
 
 pub returns-in_default-clause-put : goal.returns-in_default-clause-put
@@ -53,33 +53,19 @@ returns-then-place-get-clause-put c =
 pub returns-then-place-get-clause-kept : goal.returns-then-place-get-clause-kept
 returns-then-place-get-clause-kept c = c.put_correction.ensures.kept
 
-pub get-requires-2-clause-from : goal.get-requires-2-clause-from
-get-requires-2-clause-from c = c.requires.place.from
-
-pub get-requires-2-clause-to : goal.get-requires-2-clause-to
-get-requires-2-clause-to c = agent_of_to c.self.invariant.0 c.self.view_is c.requires.place.to
-
-pub value-now-requires-clause-place : goal.value-now-requires-clause-place
-value-now-requires-clause-place c = c.requires.place
-
-pub value-now-requires-clause-there : goal.value-now-requires-clause-there
-value-now-requires-clause-there c =
-    let place = position_of c.args.place in
-    ap is_some (reading_there c.args.self.now.batches place (model_reading c.in-Reading.reading)
-    (subst (λ w. record_at c.args.self.now.batches place ≡ Some (record_of w)) c.in-Reading.is c.requires.there))
-
-pub value-now-requires-clause-upto : goal.value-now-requires-clause-upto
-value-now-requires-clause-upto c = to_reaches c.self.invariant.0 c.self.view_is _ c.get-2.ensures.value
-
 pub row-requires-clause-was : goal.row-requires-clause-was
 row-requires-clause-was c priced = nothing_fits (nothing c.new.ensures.within c.unwrap-nothing.ensures)
 
 pub row-requires-clause-value : goal.row-requires-clause-value
 row-requires-clause-value c priced =
+    let s = c.args.self.now in
     let place = position_of c.args.place in
-    c.value-now.ensures.not_negative (model_reading c.in-Reading.reading)
-    (reading_there c.args.self.now.batches place (model_reading c.in-Reading.reading)
-    (subst (λ w. record_at c.args.self.now.batches place ≡ Some (record_of w)) c.in-Reading.is c.requires.there)) priced
+    let reading = model_reading c.in-Reading.reading in
+    let there = reading_there s.batches place reading (subst (λ w. record_at s.batches place ≡ Some (record_of w)) c.in-Reading.is c.requires.there) in
+    let high = place_high place c.self.view_is c.get.ensures.value c.if-place-get.false in
+    let now : c.value_in-now.result ≡ value_at s.batches place (last_of s.to place.agent) =
+    worth s.batches place reading _ c.args.values.now c.args.values.now c.value_in-now.result (c.requires.values high) refl c.value_in-now.ensures there in
+    worth_at_to s (subst MayBeCharged c.self.view_is c.self.invariant.0) place reading c.value_in-now.result now there priced c.requires.place.within
 
 pub row-requires-clause-near : goal.row-requires-clause-near
 row-requires-clause-near c =
@@ -94,12 +80,14 @@ returns-clause-put c =
     let s = c.args.self.now in
     let place = position_of c.args.place in
     let reading = model_reading c.in-Reading.reading in
-    let now : c.value-now.result ≡ value_at s.batches place (last_of s.to place.agent) =
-    c.value-now.ensures.value ∙ ap (value_at s.batches place) (c.get-2.ensures.value ∙ ap (λ (b : Between). last_of b.to place.agent) c.self.view_is) in
-    let charged : model_row c.row.result ≡ row s.sheet s.issuer reading s.period New c.unwrap-nothing.result c.value-now.result =
-    subst (λ (b : Between). model_row c.row.result ≡ row b.sheet b.issuer reading b.period New c.unwrap-nothing.result c.value-now.result) c.self.view_is
+    let there = reading_there s.batches place reading (subst (λ w. record_at s.batches place ≡ Some (record_of w)) c.in-Reading.is c.requires.there) in
+    let high = place_high place c.self.view_is c.get.ensures.value c.if-place-get.false in
+    let now : c.value_in-now.result ≡ value_at s.batches place (last_of s.to place.agent) =
+    worth s.batches place reading _ c.args.values.now c.args.values.now c.value_in-now.result (c.requires.values high) refl c.value_in-now.ensures there in
+    let charged : model_row c.row.result ≡ row s.sheet s.issuer reading s.period New c.unwrap-nothing.result c.value_in-now.result =
+    subst (λ (b : Between). model_row c.row.result ≡ row b.sheet b.issuer reading b.period New c.unwrap-nothing.result c.value_in-now.result) c.self.view_is
     (c.row.ensures.row c.self.inside.period c.self.invariant.1) in
-    let is = row_whole s place reading _ _ _ (place_high place c.self.view_is c.get.ensures.value c.if-place-get.false) (nothing c.new.ensures.within c.unwrap-nothing.ensures) now charged in
+    let is = row_whole s place reading _ _ _ high (nothing c.new.ensures.within c.unwrap-nothing.ensures) now charged in
     put_behind c.row.result (put_if _ _ _ c.push.ensures.items c.is_err.ensures.negation c.if-is_err.false)
     (subst (λ w. Some (model_row c.row.result) ≡ row_of s.sheet s.issuer s.batches s.period s.from s.to place (record_of w)) (sym c.in-Reading.is) is) c.requires.near
     (subst (λ (b : Between). IsNamed b.sheet (option_copied c.row.result.region_id) (option_copied c.row.result.region_name)) c.self.view_is c.row.ensures.named)
