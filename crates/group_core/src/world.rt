@@ -1,10 +1,10 @@
 //! A group, whose type keeps that some run leads to it.
 
-ghost use Rattle.std.specs.Prelude.{◌≡◌, ◌≢◌, ℕ, ◌+◌, ◌≤◌, Some, slice_get, IfOk, IsTrue, OnErr, [], ◌∷◌, ◌↔◌};
+ghost use Rattle.std.specs.Prelude.{◌≡◌, ◌≢◌, ℕ, ◌+◌, ◌≤◌, List, Some, slice_get, IfOk, IsTrue, MatchOption, OnErr, [], ◌∷◌, ◌↔◌};
 ghost use Rattle.std.specs.Option.{option_map};
 ghost use Rattle.std.specs.Arc.{arc_value};
 ghost use Rattle.metering_model.specs.Limits.{most_agents, most_nodes, most_packets};
-ghost use Rattle.metering_model.specs.World.{Node, KeptOffer, KeptGood, Refused, Revive, opening, voter_count};
+ghost use Rattle.metering_model.specs.World.{Keep, KeptText, Node, KeptOffer, KeptGood, Refused, Revive, opening, voter_count};
 ghost use Rattle.metering_model.specs.KeptText.{kept_text};
 ghost use Rattle.metering_model.specs.Step.{kept_now, snapshot, step};
 ghost use Rattle.group_laws.specs.Headline.{AtMostOneIsChosen};
@@ -125,6 +125,16 @@ impl World {
         ensures { result ≡ option_map (λ p. p.index) (bad_record self.now (event_of event.now)) }
     {
         self.state.bad_record(event)
+    }
+
+    /// Why a node that is asked for the text of what it keeps refuses, or None where it gives the text. Nothing changes: the
+    /// text is not made, and no memory is taken.
+    pub fn keep_refusal(&self, node: u8) -> Option<Refusal>
+        ensures { MatchOption result
+            ((text : List ℕ) × ((KeptText text, self.now) ≡ step self.now (Keep node)))
+            (λ why. (Refused why, self.now) ≡ step self.now (Keep node)) }
+    {
+        self.state.keep_refusal(node)
     }
 
     /// The reply to an export of a period at a node, or why it is refused: first for a node that is not there, then for

@@ -8,9 +8,10 @@ use Rattle.metering_model.specs.declared.BrokenRule.TheVariants.{BadTarget as Br
 use Rattle.metering_model.specs.declared.Refusal.{Refusal}
 use Rattle.metering_model.specs.declared.Refusal.TheVariants.{NoNode, NoAgent, WrongSeq, BadTarget, Unpriced, WorldFull}
 use Rattle.metering_model.specs.Ballot.{ballot_of}
-use Rattle.metering_model.specs.World.{World, Node, Packet, CarriesBatch, Prepare, Journaled, Delivered, Started, Restarted, Exported, Refused, Export, Snapshot, voter_count, votes, current_period, wake, with_node_at, with_packet}
+use Rattle.metering_model.specs.World.{World, Node, Packet, CarriesBatch, Prepare, Journaled, Delivered, Started, Restarted, Exported, KeptText, Refused, Export, Keep, Snapshot, voter_count, votes, current_period, wake, with_node_at, with_packet}
 use Rattle.metering_model.specs.Deliveries.{handled}
-use Rattle.metering_model.specs.Step.{Outcome, on_batch, on_delivery, on_start, on_restart, started_node, snapshot, step}
+use Rattle.metering_model.specs.KeptText.{kept_text}
+use Rattle.metering_model.specs.Step.{Outcome, kept_now, on_batch, on_delivery, on_start, on_restart, started_node, snapshot, step}
 
 -- ---- a batch is journaled
 
@@ -74,3 +75,9 @@ module _ (w : World) (i p : ℕ) where
 
   pub refused_told : (refusal : Refusal) → snapshot w i p ≡ Err refusal → ◌≡◌ {A = Outcome} (Refused refusal, w) (step w (Export i p))
   refused_told refusal e = sym (rw e refl)
+
+-- ---- a node tells what it keeps
+
+-- the reply to it is the text, and the world stays
+pub kept_told : (w : World) (i : ℕ) (n : Node) → slice_get w.nodes i ≡ Some n → ◌≡◌ {A = Outcome} (KeptText (kept_text (kept_now w n)), w) (step w (Keep i))
+kept_told w i n found = sym (rw found refl)

@@ -4,7 +4,7 @@ ghost use Rattle.std.specs.Prelude.{◌≡◌, ◌≤◌, ◌+◌, [], ◌++◌,
 ghost use Rattle.std.specs.Arc.{arc_value};
 ghost use Rattle.metering_model.specs.Limits.{most_agents, most_nodes};
 ghost use Rattle.metering_model.specs.Batch.{Batch};
-ghost use Rattle.metering_model.specs.Schedule.{event_of};
+ghost use Rattle.metering_model.specs.Schedule.{PlansKeep, event_of};
 ghost use Rattle.metering_model.specs.Step.{step};
 ghost use Rattle.metering_model.specs.World as model;
 ghost use Rattle.group_events.specs.Events.{event_of as offered_event};
@@ -100,6 +100,27 @@ fn put_reply(
         | Reply::Restarted
         | Reply::Exported(_)
         | Reply::KeptText(_) => Ok(()),
+    }
+}
+
+/// Appends it where a `keep` of a node is refused. What it would tell, the text of all that the node keeps, is not made.
+fn check_keep(
+    told: &mut Vec<u8>,
+    world: &World,
+    line: u32,
+    planned: &Planned<'_>,
+    node: u8,
+) -> Result<(), AllocError>
+    requires lines { HasWholeLines planned.now }
+    requires keep { planned_of planned.now ≡ PlansKeep node }
+    ensures said { OnOk result (told.new.items ≡ told.old.items
+        ++ said_of_reply line world.now (planned_of planned.now)
+        (step world.now (event_of (planned_of planned.now))).0) }
+    ensures stays { (step world.now (event_of (planned_of planned.now))).1 ≡ world.now }
+{
+    match world.keep_refusal(node) {
+        Some(refusal) => put_refused(told, world, line, planned, None, refusal),
+        None => Ok(()),
     }
 }
 
@@ -210,6 +231,9 @@ fn check_event(
     ensures world { OnOk result
         (world.new ≡ (step world.old (event_of (planned_of planned.now))).1) }
 {
+    if let Planned::Keep { node } = planned {
+        return check_keep(told, world, line, planned, *node);
+    }
     match event_within(alloc, text, planned, from) {
         Ok(event) => check_made(alloc, world, line, planned, &event, told, latest, warned),
         Err(error) => Err(error),
