@@ -6,7 +6,8 @@ use Rattle.std.proofs.lemmas.Bool.Decides.{nat_tests}
 use Rattle.std.proofs.lemmas.List.{at_drop_all, at_drop_more, drop_all, take_all, take_more}
 use Rattle.toml.specs.Data.{Members}
 use Rattle.sheet_text.specs.declared.names.Key.{Key}
-use Rattle.fault_lines.specs.UnknownKeys.{UnknownKey, from_first, up_to_first, with_rows, with_table}
+use Rattle.fault_lines.specs.TableLines.{from_first}
+use Rattle.fault_lines.specs.UnknownKeys.{UnknownKey, up_to_first, with_rows, with_table}
 
 -- ---- keys
 

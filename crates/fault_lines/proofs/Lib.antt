@@ -7,6 +7,7 @@ pub mod FieldLines
 pub mod Latest
 pub mod LatestKept
 pub mod AheadWalks
+pub mod TomlStopLaws
 pub mod UnknownLaws
 mod TakenKeys
 pub mod KeyWalks
@@ -15,3 +16,4 @@ pub mod CheckLaws
 mod WorkedKinds
 mod WorkedAhead
 mod WorkedUnknown
+mod WorkedStops

@@ -1,6 +1,8 @@
 pub mod Checked
 pub mod Fields
 pub mod TextKinds
+pub mod TableLines
+pub mod TomlStops
 pub mod Told
 pub mod UnknownKeys
 pub mod Ahead

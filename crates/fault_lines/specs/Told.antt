@@ -21,9 +21,10 @@ use Rattle.input_sections.specs.declared.faults.ScheduleCode.TheVariants as code
 use Rattle.input_sections.specs.declared.faults.ScheduleFault.{ScheduleFault}
 use Rattle.input_sections.specs.declared.faults.ScheduleFault.TheVariants as section
 use Rattle.input_sections.specs.Sections.{Section, Unread, lines_left, section_in, section_of, whole_of}
-use Rattle.answer_words.specs.Words.{issuer_fault_text, section_code_text, sheet_fault_text}
+use Rattle.answer_words.specs.Words.{section_code_text}
 use Rattle.fault_lines.specs.Fields.{field_name, field_of}
 use Rattle.fault_lines.specs.TextKinds.{batch_words, kind_words, opening_words}
+use Rattle.fault_lines.specs.TomlStops.{issuer_words, sheet_words}
 use Rattle.fault_lines.specs.declared.fields.RecordField.{RecordField}
 
 -- ---- a line of what is said
@@ -49,7 +50,7 @@ text_of (Err fault) = None
 unfoldable pub section_on : ScheduleCode → List ℕ → ℕ → ℕ → List ℕ → Option (List ℕ)
 section_on code word most n text = text_of (from_line code n text >>= λ (u : Unread). section_in code word most u)
 
--- what its reader says of it
+-- what its reader says of it: in words that may look at its text
 abbrev pub said_by : {A E : Type 0} → (E → List ℕ) → Result A E → List ℕ
 said_by words (Ok x) = []
 said_by words (Err fault) = codes " " ++ words fault
@@ -57,15 +58,15 @@ said_by words (Err fault) = codes " " ++ words fault
 unfoldable pub said_of_text : {A E : Type 0} → (E → List ℕ) → (List ℕ → Result A E) → List ℕ → List ℕ
 said_of_text words reader text = if is_utf8 text then said_by words (reader text) else codes " not UTF-8"
 
-abbrev pub said_of : {A E : Type 0} → (E → List ℕ) → (List ℕ → Result A E) → List ℕ → Option (List ℕ) → List ℕ
-said_of words reader otherwise (Some text) = said_of_text words reader text
+abbrev pub said_of : {A E : Type 0} → (List ℕ → E → List ℕ) → (List ℕ → Result A E) → List ℕ → Option (List ℕ) → List ℕ
+said_of words reader otherwise (Some text) = said_of_text (words text) reader text
 said_of words reader otherwise None = otherwise
 
 -- Of a section with a sheet or an issuer what its reader says, which are the ones with readers of their own, or what the line is that was to
 -- open one; of a text without a head what it is.
 abbrev pub reason : List ℕ → ScheduleCode → ℕ → List ℕ
-reason text code.Sheet n = said_of sheet_fault_text sheet_of_text (opening_words text n) (section_on code.Sheet (codes "sheet ") most_sheet_lines n text)
-reason text code.Issuer n = said_of issuer_fault_text issuer_of_text (opening_words text n) (section_on code.Issuer (codes "issuer ") most_issuer_lines n text)
+reason text code.Sheet n = said_of (sheet_words n) sheet_of_text (opening_words text n) (section_on code.Sheet (codes "sheet ") most_sheet_lines n text)
+reason text code.Issuer n = said_of (issuer_words n) issuer_of_text (opening_words text n) (section_on code.Issuer (codes "issuer ") most_issuer_lines n text)
 reason text code.Head n = kind_words text
 reason text code.Nodes n = []
 reason text code.Agents n = []

@@ -1,5 +1,5 @@
 -- Keys of a sheet or of an issuer that no reader takes, and the line of the input at which each is told.
-use Rattle.std.specs.Prelude.{◌≡◌, ℕ, ◌+◌, Bool, true, not, ◌&&◌, ◌||◌, ◌==◌, nat_le, nat_lt, if◌then◌else◌, List, [], ◌∷◌, ◌++◌, length, map, take, drop, filter, Option, Some, None, Result, Ok, Err, codes}
+use Rattle.std.specs.Prelude.{◌≡◌, ℕ, ◌+◌, Bool, true, not, ◌&&◌, ◌||◌, ◌==◌, nat_le, nat_lt, if◌then◌else◌, List, [], ◌∷◌, ◌++◌, length, map, take, filter, Option, Some, None, Result, Ok, Err, codes}
 use Rattle.std.specs.List.{flat_map, list_any, position}
 use Rattle.std.specs.Str.{is_utf8}
 use Rattle.toml.specs.Data.{Members, no_members, member, get_member}
@@ -13,7 +13,8 @@ use Rattle.sheet_text.specs.declared.names.Key.{Key}
 use Rattle.sheet_text.specs.declared.names.Key.TheVariants as keys
 use Rattle.input_sections.specs.declared.faults.ScheduleCode.TheVariants as code
 use Rattle.input_sections.specs.declared.faults.ScheduleFault.{ScheduleFault}
-use Rattle.input_sections.specs.Sections.{Section, Unread, begins_with, section_in}
+use Rattle.input_sections.specs.Sections.{Section, Unread, section_in}
+use Rattle.fault_lines.specs.TableLines.{from_first, is_blank, opens_table}
 use Rattle.fault_lines.specs.Told.{from_line, told_at}
 
 -- ---- the keys that no reader takes
@@ -90,9 +91,6 @@ unknown_in_issuer ms = with_table issuer_keys [] [] ms
 
 -- ---- the line of a key
 
-abbrev pub is_blank : ℕ → Bool
-is_blank c = (c == 32) || (c == 9)
-
 -- a blank, `[`, or a quotation mark
 abbrev pub stands_before_key : ℕ → Bool
 stands_before_key c = is_blank c || (c == 91) || (c == 34) || (c == 39)
@@ -101,20 +99,13 @@ stands_before_key c = is_blank c || (c == 91) || (c == 34) || (c == 39)
 abbrev pub is_of_key : ℕ → Bool
 is_of_key c = (nat_le 97 c && nat_le c 122) || (nat_le 65 c && nat_le c 90) || (nat_le 48 c && nat_le c 57) || (c == 45) || (c == 95)
 
--- from the first byte on for which this holds, and what stands before it
-abbrev pub from_first : (ℕ → Bool) → List ℕ → List ℕ
-from_first test text = elim (position test text) [ Some at ↦ drop at text | None ↦ [] ]
-
+-- what stands before the first byte for which this holds
 abbrev pub up_to_first : (ℕ → Bool) → List ℕ → List ℕ
 up_to_first test text = elim (position test text) [ Some at ↦ take at text | None ↦ text ]
 
 -- what a line begins with behind blanks, `[` and quotation marks, up to what is no letter, digit, `-` or `_`
 abbrev pub first_word : List ℕ → List ℕ
 first_word line = up_to_first (λ c. not (is_of_key c)) (from_first (λ c. not (stands_before_key c)) line)
-
--- whether `[` comes first in a line, behind blanks
-abbrev pub opens_table : List ℕ → Bool
-opens_table line = begins_with (codes "[") (from_first (λ c. not (is_blank c)) line)
 
 -- the table that is open below a line, and the one in which the line's own word is a key
 abbrev pub table_below : List ℕ → List ℕ → List ℕ

@@ -3,7 +3,8 @@
 ghost use Rattle.std.specs.Prelude.{◌≡◌, ◌≤◌, [], not, ◌+◌, ◌++◌, codes, length, IfOk, OnOk, map, filter};
 ghost use Rattle.std.specs.List.{flat_map, position_or_len};
 ghost use Rattle.metering_model.specs.BatchReading.{lines_in};
-ghost use Rattle.fault_lines.specs.UnknownKeys.{first_word, from_first, has_key, is_key, keys_left, shown, table_below, table_of, told_along, told_of_keys, told_unknown};
+ghost use Rattle.fault_lines.specs.TableLines.{from_first, opens_table};
+ghost use Rattle.fault_lines.specs.UnknownKeys.{first_word, has_key, is_key, keys_left, shown, table_below, table_of, told_along, told_of_keys, told_unknown};
 ghost use Rattle.fault_lines.specs.Inner.KeyKinds.{is_of_kind};
 
 use crate::batches::{put_end, put_place};
@@ -84,6 +85,13 @@ fn first_word(line: &[u8]) -> &[u8]
     &behind[..count_in_front(ByteKind::OfKey, behind)]
 }
 
+/// Whether a line opens a table: `[` comes first in it, behind blanks.
+pub(crate) fn opens_table(line: &[u8]) -> bool
+    ensures { result ≡ opens_table line.now }
+{
+    begins_with(behind_those(ByteKind::Blanks, line), b"[")
+}
+
 /// The table in which the first word of a line is a key, and the one that is open below the line.
 #[derive(Clone, Copy)]
 struct LineTables<'a> {
@@ -91,12 +99,12 @@ struct LineTables<'a> {
     below: &'a [u8],
 }
 
-/// These tables of a line. One that opens a table has `[` first, behind blanks.
+/// These tables of a line.
 fn tables_at<'a>(table: &'a [u8], line: &'a [u8]) -> LineTables<'a>
     ensures at { result.at.now ≡ table_of table.now line.now }
     ensures below { result.below.now ≡ table_below table.now line.now }
 {
-    if begins_with(behind_those(ByteKind::Blanks, line), b"[") {
+    if opens_table(line) {
         LineTables {
             at: b"",
             below: first_word(line),

@@ -9,6 +9,7 @@ mod key_lines;
 pub mod laws;
 mod sections;
 mod text_kinds;
+mod toml_stops;
 mod unknown_keys;
 
 pub use ahead::LatestDays;

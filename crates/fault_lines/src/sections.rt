@@ -3,11 +3,12 @@
 ghost use Rattle.std.specs.Prelude.{◌≡◌, ◌≢◌, ◌≤◌, ◌++◌, codes, None, Some, Ok, Err, MatchOption, OnOk};
 ghost use Rattle.price_sheet.specs.SheetReading.{sheet_of_text};
 ghost use Rattle.sheet_text.specs.IssuerReading.{issuer_of_text};
-ghost use Rattle.answer_words.specs.Words.{issuer_fault_text, sheet_fault_text};
 ghost use Rattle.fault_lines.specs.Told.{from_line, reason, said_by, said_of_fault, section_on};
+ghost use Rattle.fault_lines.specs.TomlStops.{issuer_words, sheet_words};
 
 use crate::batches::{put_end, put_place};
 use crate::text_kinds::{kind_words, opening_words};
+use crate::toml_stops::put_stop;
 use answer_words::{put_issuer_fault, put_sheet_fault, section_code_word};
 use input_sections::{ScheduleCode, ScheduleFault, Unread, read_section};
 use price_sheet::Sheet;
@@ -47,21 +48,38 @@ fn section_on<'a>(
     }
 }
 
-/// Appends why a text is no sheet, behind a space.
-fn put_sheet_words(told: &mut Vec<u8>, fault: SheetFault) -> Result<(), AllocError>
+/// Appends why the text of a section that opens on a line is no sheet, behind a space.
+fn put_sheet_words(
+    alloc: Global,
+    told: &mut Vec<u8>,
+    text: &str,
+    line: u32,
+    fault: SheetFault,
+) -> Result<(), AllocError>
     ensures { OnOk result (told.new.items
-        ≡ told.old.items ++ (codes " " ++ sheet_fault_text fault)) }
+        ≡ told.old.items ++ (codes " " ++ sheet_words line text.now fault)) }
 {
     let Ok(()) = told.extend_from_slice(b" ") else {
         return Err(AllocError);
     };
-    put_sheet_fault(told, fault)
+    let Ok(()) = put_sheet_fault(told, fault) else {
+        return Err(AllocError);
+    };
+    match fault {
+        SheetFault::NotToml => put_stop(alloc, told, text.as_bytes(), line),
+        _ => Ok(()),
+    }
 }
 
-/// Appends what the reader of a sheet says of a text.
-fn put_sheet_answer(alloc: Global, told: &mut Vec<u8>, text: &str) -> Result<(), AllocError>
+/// Appends what the reader of a sheet says of the text of a section that opens on a line.
+fn put_sheet_answer(
+    alloc: Global,
+    told: &mut Vec<u8>,
+    text: &str,
+    line: u32,
+) -> Result<(), AllocError>
     ensures { OnOk result (told.new.items
-        ≡ told.old.items ++ said_by sheet_fault_text (sheet_of_text text.now)) }
+        ≡ told.old.items ++ said_by (sheet_words line text.now) (sheet_of_text text.now)) }
 {
     match Sheet::read(alloc, text) {
         Ok(sheet) => {
@@ -70,7 +88,7 @@ fn put_sheet_answer(alloc: Global, told: &mut Vec<u8>, text: &str) -> Result<(),
             Ok(())
         }
         Err(SheetFault::OutOfMemory) => Err(AllocError),
-        Err(fault) => put_sheet_words(told, fault),
+        Err(fault) => put_sheet_words(alloc, told, text, line, fault),
     }
 }
 
@@ -88,26 +106,43 @@ fn put_sheet_reason(
         return told.extend_from_slice(opening_words(text, line));
     };
     match str::from_utf8(section) {
-        Ok(toml) => put_sheet_answer(alloc, told, toml),
+        Ok(toml) => put_sheet_answer(alloc, told, toml, line),
         Err(_) => told.extend_from_slice(b" not UTF-8"),
     }
 }
 
-/// Appends why a text is no issuer, behind a space.
-fn put_issuer_words(told: &mut Vec<u8>, fault: IssuerFault) -> Result<(), AllocError>
+/// Appends why the text of a section that opens on a line is no issuer, behind a space.
+fn put_issuer_words(
+    alloc: Global,
+    told: &mut Vec<u8>,
+    text: &str,
+    line: u32,
+    fault: IssuerFault,
+) -> Result<(), AllocError>
     ensures { OnOk result (told.new.items
-        ≡ told.old.items ++ (codes " " ++ issuer_fault_text fault)) }
+        ≡ told.old.items ++ (codes " " ++ issuer_words line text.now fault)) }
 {
     let Ok(()) = told.extend_from_slice(b" ") else {
         return Err(AllocError);
     };
-    put_issuer_fault(told, fault)
+    let Ok(()) = put_issuer_fault(told, fault) else {
+        return Err(AllocError);
+    };
+    match fault {
+        IssuerFault::NotToml => put_stop(alloc, told, text.as_bytes(), line),
+        _ => Ok(()),
+    }
 }
 
-/// Appends what the reader of an issuer says of a text.
-fn put_issuer_answer(alloc: Global, told: &mut Vec<u8>, text: &str) -> Result<(), AllocError>
+/// Appends what the reader of an issuer says of the text of a section that opens on a line.
+fn put_issuer_answer(
+    alloc: Global,
+    told: &mut Vec<u8>,
+    text: &str,
+    line: u32,
+) -> Result<(), AllocError>
     ensures { OnOk result (told.new.items
-        ≡ told.old.items ++ said_by issuer_fault_text (issuer_of_text text.now)) }
+        ≡ told.old.items ++ said_by (issuer_words line text.now) (issuer_of_text text.now)) }
 {
     match Issuer::read(alloc, text) {
         Ok(issuer) => {
@@ -115,7 +150,7 @@ fn put_issuer_answer(alloc: Global, told: &mut Vec<u8>, text: &str) -> Result<()
             Ok(())
         }
         Err(IssuerFault::OutOfMemory) => Err(AllocError),
-        Err(fault) => put_issuer_words(told, fault),
+        Err(fault) => put_issuer_words(alloc, told, text, line, fault),
     }
 }
 
@@ -133,7 +168,7 @@ fn put_issuer_reason(
         return told.extend_from_slice(opening_words(text, line));
     };
     match str::from_utf8(section) {
-        Ok(toml) => put_issuer_answer(alloc, told, toml),
+        Ok(toml) => put_issuer_answer(alloc, told, toml, line),
         Err(_) => told.extend_from_slice(b" not UTF-8"),
     }
 }
@@ -180,7 +215,7 @@ fn put_refused(
     put_end(told)
 }
 
-/// Appends the line of the fault that a text has by its sections, or as a schedule. Want of memory is handed on.
+/// Appends the line of the fault that a text has by its sections, or as a schedule. An error is an allocation failure.
 pub fn put_fault(
     alloc: Global,
     told: &mut Vec<u8>,

@@ -11,9 +11,9 @@ use Rattle.input_sections.specs.declared.faults.ScheduleCode.{ScheduleCode}
 use Rattle.input_sections.specs.declared.faults.ScheduleCode.TheVariants as code
 use Rattle.input_sections.specs.Sections.{Unread, lines_left, section_of, whole_of}
 use Rattle.schedule_reader.proofs.WrittenLines.{lines_written, section_written}
-use Rattle.answer_words.specs.Words.{issuer_fault_text, sheet_fault_text}
 use Rattle.fault_lines.specs.TextKinds.{opening_words}
 use Rattle.fault_lines.specs.Told.{said_of, section_on}
+use Rattle.fault_lines.specs.TomlStops.{issuer_words, sheet_words}
 use Rattle.fault_lines.proofs.SectionLaws.{line_at, section_there}
 use Rattle.input_check.specs.Checks.{IsSaidOfSection}
 
@@ -33,12 +33,12 @@ module _ (c : ScheduleCode) (word : List ℕ) (most : ℕ) (small : most < 10 ^ 
       let found = section_written c word most _ ls rest small whole are stands.2 in
       section_there c (1 + length above) text word most _ found.0 there found.1 ∙ ap Some found.2
 
-pub sheet_reason : IsSaidOfSection code.Sheet (codes "sheet ") most_sheet_lines sheet_fault_text sheet_of_text
+pub sheet_reason : IsSaidOfSection code.Sheet (codes "sheet ") most_sheet_lines sheet_words sheet_of_text
 sheet_reason above ls rest lack are short =
-    ap (said_of sheet_fault_text sheet_of_text (opening_words (lines_text above ++ (section_text (codes "sheet ") ls ++ rest)) (1 + length above)))
+    ap (said_of (sheet_words (1 + length above)) sheet_of_text (opening_words (lines_text above ++ (section_text (codes "sheet ") ls ++ rest)) (1 + length above)))
     (on_its_line code.Sheet (codes "sheet ") most_sheet_lines (omega arith) refl above ls rest lack are short)
 
-pub issuer_reason : IsSaidOfSection code.Issuer (codes "issuer ") most_issuer_lines issuer_fault_text issuer_of_text
+pub issuer_reason : IsSaidOfSection code.Issuer (codes "issuer ") most_issuer_lines issuer_words issuer_of_text
 issuer_reason above ls rest lack are short =
-    ap (said_of issuer_fault_text issuer_of_text (opening_words (lines_text above ++ (section_text (codes "issuer ") ls ++ rest)) (1 + length above)))
+    ap (said_of (issuer_words (1 + length above)) issuer_of_text (opening_words (lines_text above ++ (section_text (codes "issuer ") ls ++ rest)) (1 + length above)))
     (on_its_line code.Issuer (codes "issuer ") most_issuer_lines (omega arith) refl above ls rest lack are short)

@@ -24,6 +24,7 @@ use Rattle.schedule_reader.specs.Schedules.{group_in, head_line, nodes_line, num
 use Rattle.metering_model.specs.RatedAlone.{journaled_in}
 use Rattle.fault_lines.specs.Fields.{fault_field}
 use Rattle.fault_lines.specs.Told.{from_line, section_on, said_of_text}
+use Rattle.fault_lines.specs.TomlStops.{stop_among, stop_from, stop_in, stop_words}
 use Rattle.input_check.specs.Checks.{said_of_events, said_of_input_as, said_of_schedule, said_of_batch, said_of_rating}
 use Rattle.fault_lines.specs.Ahead.{ahead_in, ahead_of, ahead_of_all}
 use Rattle.fault_lines.specs.UnknownKeys.{keys_left, told_along, told_of_section, unknown_from, unknown_from_issuer, unknown_in_issuer, unknown_in_sheet, unknown_on, with_rows, with_table}
@@ -147,10 +148,10 @@ no_warning_before_it before =
     apart (ap (λ t. slice_get t 5) (sym a_warning_behind_a_refusal ∙ before))
 
 -- a fault of form is told alone
-no_warning_of_a_bad_sheet : written kind.Rate (codes "sheet 15" ∷ take 1 sheet_0_lines ++ (codes "regions = 1" ∷ drop 1 sheet_0_lines ++ (codes "per = 1" ∷ codes "B1|1|1|1" ∷ reading_1 ∷ []))) ≡ lines_text (codes "line 1: L4 S1" ∷ [])
+no_warning_of_a_bad_sheet : written kind.Rate (codes "sheet 15" ∷ take 1 sheet_0_lines ++ (codes "regions = 1" ∷ drop 1 sheet_0_lines ++ (codes "per = 1" ∷ codes "B1|1|1|1" ∷ reading_1 ∷ []))) ≡ lines_text (codes "line 1: L4 S1 line 16" ∷ [])
 unfolding warned_of_rating warned_of_schedule unknown_on unknown_from unknown_from_issuer told_of_section unknown_in_sheet unknown_in_issuer
     with_table with_rows keys_left told_along ahead_of_all ahead_of ahead_in event_lines lines_of_events schedule_in said_of_rating said_of_batch
-    said_of_schedule said_of_events said_of_text fault_field section_on from_line journaled_in batch_of rate_input_in preamble_in group_in head_line
+    said_of_schedule said_of_events said_of_text stop_words stop_from stop_in stop_among fault_field section_on from_line journaled_in batch_of rate_input_in preamble_in group_in head_line
     nodes_line number_line events_in event_in line_event journal_event revival_event section_in read_as sheet_section issuer_section is_utf8 chars
     lib.Utf8.encode price_row_in commitment_in region_in next_price next_commitment next_region sheet_of_rows sheet_in sheet_of_text currency_under
     issuer_in issuer_of_text key_name value_under text_under label_under base_under day_under price_under per_under service_category_under

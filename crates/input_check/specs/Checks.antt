@@ -169,12 +169,12 @@ SaysWhatIsPlayed text (Err (section.Refused code n)) said = said ≡ told_at n (
 SaysWhatIsPlayed text (Err section.OutOfMemory) said = ⊥
 
 -- Of a section below any lines, whatever stands behind it, just what its reader says of the text of its lines is told behind its
--- code: why that text is none such, or nothing.
-abbrev pub IsSaidOfSection : {A E : Type 0} → ScheduleCode → List ℕ → ℕ → (E → List ℕ) → (List ℕ → Result A E) → Type 0
+-- code: why that text is none such, or nothing. The words may look at the line on which it opens, and at its text.
+abbrev pub IsSaidOfSection : {A E : Type 0} → ScheduleCode → List ℕ → ℕ → (ℕ → List ℕ → E → List ℕ) → (List ℕ → Result A E) → Type 0
 IsSaidOfSection code word most words reader =
     (above ls : TextLines) (rest : List ℕ) → list_all (lacks 10) above ≡ true → AreLines most ls
     → length (lines_text above ++ (section_text word ls ++ rest)) ≤ most_input_bytes
-    → reason (lines_text above ++ (section_text word ls ++ rest)) code (1 + length above) ≡ said_of_text words reader (lines_text ls)
+    → reason (lines_text above ++ (section_text word ls ++ rest)) code (1 + length above) ≡ said_of_text (words (1 + length above) (lines_text ls)) reader (lines_text ls)
 
 -- ---- any input
 

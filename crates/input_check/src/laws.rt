@@ -15,6 +15,7 @@ ghost use Rattle.schedule_reader.specs.Schedules.{ReadSchedule, schedule_in};
 ghost use Rattle.metering_model.specs.RatedAlone.{journaled_in};
 ghost use Rattle.schedule_player.specs.Transcripts.{replies_to};
 ghost use Rattle.group_events.specs.Replies.{is_refused};
+ghost use Rattle.fault_lines.specs.TomlStops.{issuer_words, sheet_words};
 ghost use Rattle.fault_lines.specs.Ahead.{ahead_of_all};
 ghost use Rattle.input_sections.specs.declared.faults.ScheduleFault.{ScheduleFault};
 ghost use Rattle.std.specs.List.{list_any};
@@ -25,7 +26,6 @@ ghost use Rattle.input_check.specs.Warnings.{CountsWhatIsJournaled, journaled_am
 ghost use Rattle.input_check.specs.declared.kinds.InputKind.{InputKind};
 ghost use Rattle.price_sheet.specs.SheetReading.{sheet_of_text};
 ghost use Rattle.sheet_text.specs.IssuerReading.{issuer_of_text};
-ghost use Rattle.answer_words.specs.Words.{issuer_fault_text, sheet_fault_text};
 ghost use Rattle.input_sections.specs.declared.faults.ScheduleCode.{ScheduleCode};
 ghost use Rattle.fault_lines.specs.Told.{bad_index, line_within};
 ghost use Rattle.input_check.specs.RateForms.{IsRateForm, RateForm};
@@ -78,12 +78,12 @@ pub fn nothing_is_refused_for_a_warning()
 {}
 
 /// What is reported after the code of a section, wherever it stands, is what the reader of its sheet or of its issuer says of the text of
-/// its lines.
+/// its lines, and of no TOML the line at which a table stops being it.
 pub fn each_reason_is_of_its_section()
     ensures sheet { IsSaidOfSection ScheduleCode.Sheet
-        (codes "sheet ") most_sheet_lines sheet_fault_text sheet_of_text }
+        (codes "sheet ") most_sheet_lines sheet_words sheet_of_text }
     ensures issuer { IsSaidOfSection ScheduleCode.Issuer
-        (codes "issuer ") most_issuer_lines issuer_fault_text issuer_of_text }
+        (codes "issuer ") most_issuer_lines issuer_words issuer_of_text }
 {}
 
 /// An input that is to be rated is read as a sheet, an issuer and a batch exactly where it joins the sections of these, each where

@@ -40,10 +40,11 @@ use Rattle.input_sections.specs.declared.faults.ScheduleFault.{ScheduleFault}
 use Rattle.input_sections.specs.declared.faults.ScheduleFault.TheVariants as fault
 use Rattle.input_sections.specs.Sections.{Section, Unread, begins_with, first_line, first_of, issuer_section, left, lines_left, number_behind, read_as, section_in, section_of, sheet_section, told, whole_of}
 use Rattle.input_sections.specs.RateInput.{RateInput, default_sheet, if_begun, rate_input_in}
-use Rattle.answer_words.specs.Words.{section_code_text, sheet_fault_text}
+use Rattle.answer_words.specs.Words.{section_code_text}
 use Rattle.fault_lines.specs.Ahead.{ahead_in, ahead_of, ahead_of_all}
 use Rattle.fault_lines.specs.Fields.{fault_field}
 use Rattle.fault_lines.specs.Told.{from_line, said_by, said_of_text, section_on, told_at}
+use Rattle.fault_lines.specs.TomlStops.{sheet_words, stop_among, stop_from, stop_in, stop_words}
 use Rattle.fault_lines.specs.UnknownKeys.{behind_sheet, keys_left, told_along, told_if_there, told_of_section, unknown_from, unknown_from_issuer, unknown_in_issuer, unknown_in_sheet, unknown_on, with_rows, with_table}
 use Rattle.schedule_writer.specs.Checks.{if_journaled, journaled_of, said_of_input, told_of_answer, told_of_batches, warned_of_input}
 use Rattle.schedule_writer.specs.Inputs.{Offered, batches_of, items_in, items_of, offered_length}
@@ -424,7 +425,14 @@ read_twice : read_as sheet_of_text (fault.Refused code.Sheet 1) (lines_text twic
 unfolding read_as
 read_twice = test_step_from (is_utf8 (lines_text twice_lines)) _ _ _ utf8_twice (ap (told (fault.Refused code.Sheet 1)) no_sheet)
 
-no_warning_of_a_bad_sheet : written (codes "sheet 15" ∷ twice_lines ++ (codes "B1|1|1|1" ∷ reading_1 ∷ [])) ≡ lines_text (codes "line 1: L4 S1" ∷ [])
+-- and the line at which its table stops being TOML
+stop_twice : stop_words 1 (lines_text twice_lines) ≡ codes " line 16"
+unfolding stop_words stop_from stop_in stop_among is_utf8 chars lib.Utf8.encode parse_document lines line expression skip_bom skip_from skip_ws header_key
+    key_equals key_after simple_key val atom quoted one_line body special define along_header along_dots at_key unquoted word_len word_value number
+    underscore_fits plain_number decimal_number scan_numeral digits
+stop_twice = refl
+
+no_warning_of_a_bad_sheet : written (codes "sheet 15" ∷ twice_lines ++ (codes "B1|1|1|1" ∷ reading_1 ∷ [])) ≡ lines_text (codes "line 1: L4 S1 line 16" ∷ [])
 unfolding rate_input_in sheet_section section_in said_of_text section_on from_line digits
 no_warning_of_a_bad_sheet =
     let input = lines_text (codes "sheet 15" ∷ twice_lines ++ (codes "B1|1|1|1" ∷ reading_1 ∷ [])) in
@@ -433,4 +441,5 @@ no_warning_of_a_bad_sheet =
     = ap (λ (r : Result Sheet ScheduleFault). (r >>= λ (sheet : Sheet). Ok (sheet, (section twice_lines input).rest)) >>= λ (x : Sheet × Unread).
     if_begun (codes "issuer ") issuer_section sample_issuer x.1 >>= λ (y : Issuer × Unread). Ok (record { sheet = x.0; issuer = y.0; batch = left y.1 })) read_twice in
     ap₂ (λ t u. t ++ u) (said_of_refused input why refused) (warned_of_refused input why refused)
-    ∙ ap₂ (λ b (o : Result Sheet SheetFault). told_at 1 (section_code_text code.Sheet ++ cond b (said_by sheet_fault_text o) (codes " not UTF-8")) ++ []) utf8_twice no_sheet
+    ∙ ap₂ (λ b (o : Result Sheet SheetFault). told_at 1 (section_code_text code.Sheet ++ cond b (said_by (sheet_words 1 (lines_text twice_lines)) o) (codes " not UTF-8")) ++ []) utf8_twice no_sheet
+    ∙ ap (λ t. told_at 1 (section_code_text code.Sheet ++ (codes " " ++ (codes "S1" ++ t))) ++ []) stop_twice

@@ -1,7 +1,8 @@
 -- Whose keys are looked for, and which bytes are before or in one.
 use Rattle.std.specs.Prelude.{ℕ, Bool, List}
 use Rattle.toml.specs.Data.{Members}
-use Rattle.fault_lines.specs.UnknownKeys.{UnknownKey, is_blank, is_of_key, stands_before_key, unknown_in_issuer, unknown_in_sheet}
+use Rattle.fault_lines.specs.TableLines.{is_blank}
+use Rattle.fault_lines.specs.UnknownKeys.{UnknownKey, is_of_key, stands_before_key, unknown_in_issuer, unknown_in_sheet}
 use Rattle.fault_lines.specs.declared.key_lines.ByteKind.{ByteKind}
 use Rattle.fault_lines.specs.declared.key_lines.ByteKind.TheVariants as kind
 use Rattle.fault_lines.specs.declared.unknown_keys.KeyOwner.{KeyOwner}

@@ -1,7 +1,7 @@
 use Rattle.std.proofs.Common.{◌≡◌, ◌++◌, List, ℕ, OnOk, sym, ap, subst, ◌∙◌}
 use Rattle.sheet_text.specs.IssuerReading.{issuer_of_text}
-use Rattle.answer_words.specs.Words.{issuer_fault_text}
 use Rattle.fault_lines.specs.TextKinds.{opening_words}
+use Rattle.fault_lines.specs.TomlStops.{issuer_words}
 use Rattle.fault_lines.specs.Told.{said_by, said_of}
 use Rattle.fault_lines.proofs.SectionLaws.{said_of_other, said_of_utf8}
 use Rattle.fault_lines.proofs.ToldPieces.{put_one}
@@ -9,18 +9,18 @@ use Rattle.fault_lines.proofs.sections.put_issuer_reason.Goals as goal
 
 pub returns-in_default : goal.returns-in_default
 returns-in_default c =
-    let said = c.opening_words.ensures ∙ sym (ap (said_of issuer_fault_text issuer_of_text (opening_words c.args.text.now c.args.line)) c.in_default.ensures) in
+    let said = c.opening_words.ensures ∙ sym (ap (said_of (issuer_words c.args.line) issuer_of_text (opening_words c.args.text.now c.args.line)) c.in_default.ensures) in
     put_one c.extend_from_slice.result c.args.told.now.items c.extend_from_slice.new.self.items _ _ said c.extend_from_slice.ensures.items
 
 pub returns-in-Ok : goal.returns-in-Ok
 returns-in-Ok c =
     let text = c.in-Ok.ensures.cases in
-    let there = ap (said_of issuer_fault_text issuer_of_text (opening_words c.args.text.now c.args.line)) c.in-Some.ensures in
-    let said = ap (λ t. said_by issuer_fault_text (issuer_of_text t)) text.0 ∙ sym (there ∙ said_of_utf8 issuer_fault_text issuer_of_text c.in-Some.section.now text.1) in
+    let there = ap (said_of (issuer_words c.args.line) issuer_of_text (opening_words c.args.text.now c.args.line)) c.in-Some.ensures in
+    let said = ap (λ t. said_by (issuer_words c.args.line t) (issuer_of_text t)) text.0 ∙ sym (there ∙ said_of_utf8 (issuer_words c.args.line c.in-Some.section.now) issuer_of_text c.in-Some.section.now text.1) in
     subst (λ (t : List ℕ). OnOk c.put_issuer_answer.result (c.put_issuer_answer.new.told.items ≡ c.args.told.now.items ++ t)) said c.put_issuer_answer.ensures
 
 pub returns-in-Err : goal.returns-in-Err
 returns-in-Err c =
-    let there = ap (said_of issuer_fault_text issuer_of_text (opening_words c.args.text.now c.args.line)) c.in-Some.ensures in
-    let said = sym (there ∙ said_of_other issuer_fault_text issuer_of_text c.in-Some.section.now c.in-Err.ensures.cases.0) in
+    let there = ap (said_of (issuer_words c.args.line) issuer_of_text (opening_words c.args.text.now c.args.line)) c.in-Some.ensures in
+    let said = sym (there ∙ said_of_other (issuer_words c.args.line c.in-Some.section.now) issuer_of_text c.in-Some.section.now c.in-Err.ensures.cases.0) in
     put_one c.extend_from_slice-in-Err.result c.args.told.now.items c.extend_from_slice-in-Err.new.self.items _ _ said c.extend_from_slice-in-Err.ensures.items
