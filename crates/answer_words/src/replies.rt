@@ -3,7 +3,7 @@
 //! An error is an allocation failure: then some of the words may be appended.
 
 ghost use Rattle.std.specs.Prelude.{◌≡◌, ◌++◌, codes, OnOk};
-ghost use Rattle.metering_model.specs.Transcript.{if_any, refusal_text, with_number};
+ghost use Rattle.metering_model.specs.Transcript.{if_any, line, refusal_text, with_number};
 
 use crate::refusals::refusal_line;
 use byte_text::{put_if_any, put_numbered};
@@ -46,6 +46,30 @@ pub fn put_delivered(
     put_learned(line, learned)
 }
 
+/// Appends all of the line of a node that tells of no packet which it sent, its line feed too. An error is an allocation
+/// failure, and may leave some of the words.
+pub fn put_delivered_line(text: &mut Vec<u8>, learned: Option<Period>) -> Result<(), AllocError>
+    ensures { OnOk result (text.new.items ≡ text.old.items
+        ++ line (codes "delivered" ++ if_any (codes " learned ") learned)) }
+{
+    // Most packets teach nothing: word and line feed go at once.
+    match learned {
+        Some(_) => {
+            put_delivered(text, None, learned)?;
+            text.extend_from_slice(b"\n")
+        }
+        None => text.extend_from_slice(b"delivered\n"),
+    }
+}
+
+/// Appends which ballot a node began. An error is an allocation failure, and may leave some of the words.
+pub fn put_ballot(line: &mut Vec<u8>, ballot: Ballot) -> Result<(), AllocError>
+    ensures { OnOk result (line.new.items
+        ≡ line.old.items ++ with_number (codes "started ballot ") ballot) }
+{
+    put_numbered(line, b"started ballot ", u128::from(ballot.number()))
+}
+
 /// Appends which ballot a node began, and the packet that it sent. An error is an allocation failure, and may leave
 /// some of the words.
 pub fn put_started(line: &mut Vec<u8>, ballot: Ballot, packet: u32) -> Result<(), AllocError>
@@ -53,7 +77,7 @@ pub fn put_started(line: &mut Vec<u8>, ballot: Ballot, packet: u32) -> Result<()
         ≡ line.old.items ++ (with_number (codes "started ballot ") ballot
         ++ with_number (codes " packet ") packet)) }
 {
-    put_numbered(line, b"started ballot ", u128::from(ballot.number()))?;
+    put_ballot(line, ballot)?;
     put_numbered(line, b" packet ", u128::from(packet))
 }
 
