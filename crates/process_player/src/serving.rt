@@ -16,39 +16,39 @@ ghost use Rattle.process_player.specs.Inner.Reading.{Continues, ContinuesWhole, 
 use crate::beginning::begin;
 use crate::faults::ProcessFault;
 use crate::heads::ProcessKind;
-use counted_io::{Sink, Source, write_all};
+use counted_io::{Sink, Source};
 use line_source::{Unread, lines_end};
-use process_text::Process;
+use process_text::{AnswerText, Process};
 use std::alloc::Global;
 
 /// No process is asked more often: a number that no process lives to see, since each call returns.
 const MOST_COMMANDS: u64 = 9_223_372_036_854_775_808;
 
 /// Makes the text what the process answers to what is ahead, of which a line ends at the one place and what belongs to it at
-/// the other; and writes it, in one write where the sink takes all.
+/// the other; and writes it.
 fn answer<W: Sink>(
     alloc: Global,
     process: &mut Process,
     line: &[u8],
     below: &[u8],
-    text: &mut Vec<u8>,
+    said: &mut AnswerText,
     writer: &mut W,
 ) -> Result<(), ProcessFault>
     ensures answered { OnOk result
-        (Answers process.old line.now below.now process.new text.new.items
-        × Appends (W.contents writer.old) (W.contents writer.new) text.new.items) }
+        (Answers process.old line.now below.now process.new said.new
+        × Appends (W.contents writer.old) (W.contents writer.new) said.new) }
     ensures torn { result ≡ Err ProcessFault.Write
-        → Answers process.old line.now below.now process.new text.new.items
-        × AppendsPrefix (W.contents writer.old) (W.contents writer.new) text.new.items }
+        → Answers process.old line.now below.now process.new said.new
+        × AppendsPrefix (W.contents writer.old) (W.contents writer.new) said.new }
     ensures others { IfErr result (λ fault. fault ≢ ProcessFault.Write
         → (fault ≡ ProcessFault.OutOfMemory) × (writer.new ≡ writer.old)) }
     ensures count { W.failed_calls writer.new
         ≡ count_after (tells_of_writer result) (W.failed_calls writer.old) }
 {
-    let Ok(()) = process.answer(alloc, line, below, text) else {
+    let Ok(()) = process.answer(alloc, line, below, said) else {
         return Err(ProcessFault::OutOfMemory);
     };
-    match write_all(writer, text) {
+    match said.write(writer) {
         Ok(()) => Ok(()),
         Err(_) => Err(ProcessFault::Write),
     }
@@ -93,7 +93,7 @@ fn serve_one<S: Source, W: Sink>(
     process: &mut Process,
     unread: &mut Unread,
     source: &mut S,
-    text: &mut Vec<u8>,
+    said: &mut AnswerText,
     writer: &mut W,
 ) -> Result<bool, ProcessFault>
     requires read { unread.old.read ≤ most_transcript_bytes }
@@ -126,7 +126,7 @@ fn serve_one<S: Source, W: Sink>(
         process,
         &ahead[..end - 1],
         &ahead[end..all],
-        text,
+        said,
         writer,
     )?;
     unread.take(all);
@@ -139,7 +139,7 @@ fn serve<S: Source, W: Sink>(
     process: &mut Process,
     unread: &mut Unread,
     source: &mut S,
-    text: &mut Vec<u8>,
+    said: &mut AnswerText,
     writer: &mut W,
 ) -> Result<(), ProcessFault>
     requires read { unread.old.read ≤ most_transcript_bytes }
@@ -163,7 +163,7 @@ fn serve<S: Source, W: Sink>(
         (IsOfServing (IsLong unread.old.bytes (S.remaining source.old))) }
 {
     for _ in 0..MOST_COMMANDS {
-        match serve_one(alloc, process, unread, source, text, writer) {
+        match serve_one(alloc, process, unread, source, said, writer) {
             Ok(is_more) => {
                 if !is_more {
                     return Ok(());
@@ -178,7 +178,7 @@ fn serve<S: Source, W: Sink>(
 /// Writes what a process says before it is asked.
 fn write_begun<W: Sink>(
     process: &Process,
-    text: &mut Vec<u8>,
+    said: &mut AnswerText,
     writer: &mut W,
 ) -> Result<(), ProcessFault>
     ensures written { OnOk result
@@ -190,10 +190,10 @@ fn write_begun<W: Sink>(
     ensures count { W.failed_calls writer.new
         ≡ count_after (tells_of_writer result) (W.failed_calls writer.old) }
 {
-    let Ok(()) = process.put_begun(text) else {
+    let Ok(()) = process.put_begun(said) else {
         return Err(ProcessFault::OutOfMemory);
     };
-    match write_all(writer, text) {
+    match said.write(writer) {
         Ok(()) => Ok(()),
         Err(_) => Err(ProcessFault::Write),
     }
@@ -249,10 +249,10 @@ pub fn process_text<R: Source, W: Sink>(
         Ok(process) => process,
         Err(fault) => return Err(fault),
     };
-    let mut text = Vec::new(alloc);
-    match write_begun(&process, &mut text, writer) {
+    let mut said = AnswerText::new(alloc);
+    match write_begun(&process, &mut said, writer) {
         Ok(()) => {
-            let ended = serve(alloc, &mut process, &mut unread, reader, &mut text, writer);
+            let ended = serve(alloc, &mut process, &mut unread, reader, &mut said, writer);
             drop_process(process);
             ended
         }

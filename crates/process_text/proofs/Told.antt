@@ -1,15 +1,14 @@
 -- What stands behind a text where a process that stays as it is answers.
-use Rattle.std.proofs.Common.{◌≡◌, ◌<◌, ℕ, List, [], ◌∷◌, ◌++◌, ◌+◌, ◌-◌, length, take, drop, cond, Bor, refl, sym, ap, ap₂, subst, ◌∙◌, arith}
-use Rattle.std.specs.Prelude.{codes, decimal, Option, None, Some, Result, Ok, Err, IfOk, IfSome, MatchOption, OnOk, is_ok}
+use Rattle.std.proofs.Common.{◌≡◌, ◌<◌, ℕ, List, [], ◌∷◌, ◌++◌, ◌+◌, cond, Bor, refl, sym, ap, ap₂, subst, ◌∙◌}
+use Rattle.std.specs.Prelude.{codes, decimal, Option, None, Some, Result, Ok, Err, IfOk, IfSome, MatchOption, OnOk, is_ok, unwrap_or}
 use Rattle.std.specs.Option.{option_copied, option_map}
 use Rattle.std.specs.Arc.{arc_value}
-use Rattle.std.proofs.lemmas.List.{append_assoc, append-nil, length-append, take_all}
+use Rattle.std.proofs.lemmas.List.{append_assoc, append-nil}
 use Rattle.std.proofs.lemmas.Fmt.{decimal_digit}
-use Rattle.std.proofs.Math.Seq.{drop-append_seam, drop-length, take-append_seam}
 use Rattle.metering_model.specs.Batch.{Batch, batch_text, line_of_fields}
 use Rattle.metering_model.specs.Holding.{Holding, held}
 use Rattle.metering_model.specs.KeptText.{kept_text}
-use Rattle.metering_model.specs.Transcript.{file_of, if_any, line, line_count, reply_text, with_number}
+use Rattle.metering_model.specs.Transcript.{file_of, line, line_count, reply_text, with_number}
 use Rattle.metering_model.specs.World as world
 use Rattle.metering_model.specs.declared.Refusal.TheVariants.{Missing}
 use Rattle.process_laws.specs.LocalSteps as model
@@ -49,6 +48,10 @@ batch_line before group n =
     ∙ append_assoc before (codes "P1|") (group ++ (batch_numbered n ++ 10 ∷ []))
     ∙ ap (λ t. before ++ (codes "P1|" ++ t)) (sym (append_assoc group (batch_numbered n) (10 ∷ [])))
 
+-- where no file stands behind a text
+pub nothing_behind : (text : List ℕ) (file : Option (List ℕ)) → file ≡ None → text ++ unwrap_or file [] ≡ text
+nothing_behind text file none = ap (λ f. text ++ unwrap_or f []) none ∙ append-nil text
+
 -- a word and a number, and a line feed behind them
 pub line_put : (old one word : List ℕ) (n number : ℕ) → n ≡ number → one ≡ old ++ with_number word n → one ++ 10 ∷ [] ≡ old ++ line (with_number word number)
 line_put old one word n number same put =
@@ -66,15 +69,6 @@ pub below_put : (old one two above below : List ℕ) → one ≡ old ++ above �
 below_put old one two above below first second =
     second ∙ ap (λ t. t ++ 10 ∷ below) first ∙ append_assoc old above (10 ∷ below) ∙ ap (λ t. old ++ t) (sym (append_assoc above (10 ∷ []) below))
 
--- a word that says that a packet was taken, and the period that was learned by it
-pub delivered_put : (old one two : List ℕ) (learned : Option ℕ) (n period : ℕ) → learned ≡ Some period → n ≡ period
-    → one ≡ old ++ codes "delivered" → two ≡ one ++ line (with_number (codes " learned ") n)
-    → two ≡ old ++ line (codes "delivered" ++ if_any (codes " learned ") learned)
-delivered_put old one two learned n period is same first second =
-    second ∙ ap₂ (λ t k. t ++ line (with_number (codes " learned ") k)) first same
-    ∙ append_assoc old (codes "delivered") (line (with_number (codes " learned ") period))
-    ∙ ap (λ o. old ++ line (codes "delivered" ++ if_any (codes " learned ") o)) (sym is)
-
 -- three pieces, one behind the other
 pub three_put : (before one two three a b c : List ℕ) → one ≡ before ++ a → two ≡ one ++ b → three ≡ two ++ c → three ≡ before ++ (a ++ b ++ c)
 three_put before one two three a b c first second third =
@@ -89,10 +83,6 @@ answer_put name name' added packet before one two three word number number' firs
     let told : (name : List ℕ) (number : ℕ) → List ℕ = λ n k. added_text added ++ packet_sent_text n None packet ++ line (with_number word k) in
     three_put before one two three (added_text added) (packet_sent_text name' None packet) (line (with_number word number')) first second third
     ∙ ap₂ (λ n k. before ++ told n k) is_name is_number
-
--- what stands above a file, of so many lines
-abbrev exported_line : (period lines : ℕ) → List ℕ
-exported_line period lines = with_number (codes "exported period ") period ++ with_number (codes " lines ") lines
 
 pub batch_put : (old group one two bytes : List ℕ) (b : Batch) (lines : ℕ) → lines ≡ lines_of_batch b → bytes ≡ batch_text b
     → one ≡ old ++ section_line (codes "send " ++ codes "all" ++ codes " ") (1 + lines)
@@ -314,6 +304,15 @@ node_answered r found asked line below old new before after by is none appends =
     (subst (λ q. AnswersNode q old new a.said) (ap (node_request_of below) (sym is) ∙ by below) a.answers))
     appends
 
+-- the same where nothing stands behind the text
+pub node_answered_alone : {A E : Type 0} (r : Result A E) (found asked : RequestOfNode) (line below : List ℕ) (old new : NodeSelf) (before after : List ℕ) (file : Option (List ℕ))
+    → ((b : List ℕ) → node_request_of b found ≡ node_request line b) → found ≡ asked → before ≡ [] → file ≡ None
+    → OnOk r (AppendsNode (node_request_of below asked) old new before after)
+    → OnOk r (AnswersNode (node_request line below) old new (after ++ unwrap_or file []))
+node_answered_alone r found asked line below old new before after file by is none alone appends =
+    subst (λ said. OnOk r (AnswersNode (node_request line below) old new said)) (sym (nothing_behind after file alone))
+    (node_answered r found asked line below old new before after by is none appends)
+
 pub agent_answered : {A E : Type 0} (r : Result A E) (found asked : RequestOfAgent) (line below : List ℕ) (old new : AgentSelf) (before after : List ℕ)
     → ((b : List ℕ) → agent_request_of b found ≡ agent_request line b) → found ≡ asked → before ≡ []
     → OnOk r (AppendsAgent (agent_request_of below asked) old new before after) → OnOk r (AnswersAgent (agent_request line below) old new after)
@@ -322,42 +321,14 @@ agent_answered r found asked line below old new before after by is none appends 
     (subst (λ q. AnswersAgent q old new a.said) (ap (agent_request_of below) (sym is) ∙ by below) a.answers))
     appends
 
--- ---- a file that is made where it stays, and whose line is turned to its front
+-- ---- a file, and the line above it
 
--- where a text is made of three, what a turn of the last to the front of the second makes of it
-turned_is : (old file above : List ℕ) (before count : ℕ) → before ≡ length old → count ≡ length above
-    → take before (old ++ file ++ above)
-    ++ (drop (length (old ++ file ++ above) - before - count) (drop before (old ++ file ++ above))
-    ++ take (length (old ++ file ++ above) - before - count) (drop before (old ++ file ++ above)))
-    ≡ old ++ (above ++ file)
-turned_is old file above before count at many =
-    let whole = old ++ file ++ above in
-    let parts : whole ≡ old ++ (file ++ above) = append_assoc old file above in
-    let size : length whole - before - count ≡ length file = omega (arith, at, many, length-append (old ++ file) above, length-append old file) in
-    let front : take before whole ≡ old = ap₂ take at parts ∙ take-append_seam old (file ++ above) in
-    let behind : drop before whole ≡ file ++ above = ap₂ drop at parts ∙ drop-append_seam old (file ++ above) in
-    ap₂ ◌++◌ front (ap₂ ◌++◌ (ap₂ drop size behind ∙ drop-append_seam file above) (ap₂ take size behind ∙ take-append_seam file above))
+abbrev exported_line : (period lines : ℕ) → List ℕ
+exported_line period lines = line (with_number (codes "exported period ") period ++ with_number (codes " lines ") lines)
 
-pub file_turned : (s : world.Snapshot) (old made shown whole slice turned : List ℕ) (before period lines end count size : ℕ)
-    → before ≡ length old → made ≡ old ++ file_of s → shown ≡ made → lines ≡ line_count (take (length shown - before) (drop before shown)) → period ≡ s.period
-    → end ≡ length made → whole ≡ made ++ line (exported_line period lines) → slice ≡ whole → count ≡ length whole - end
-    → turned ≡ take before slice ++ (drop (length slice - before - count) (drop before slice) ++ take (length slice - before - count) (drop before slice))
-    → size ≡ length whole
-    → take size (turned ++ drop (length turned) whole) ≡ old ++ reply_text (world.Exported s)
-file_turned s old made shown whole slice turned before period lines end count size at is_made is_shown counted of ends is_whole is_slice counts turn sized =
-    let file = file_of s in
-    let above = line (exported_line period lines) in
-    let rest : drop before shown ≡ file = ap₂ drop at (is_shown ∙ is_made) ∙ drop-append_seam old file in
-    let left : length shown - before ≡ length file = omega (arith, at, ap length (is_shown ∙ is_made), length-append old file) in
-    let lines_are : lines ≡ line_count file = counted ∙ ap line_count (ap₂ take left rest ∙ take_all (length file) file (omega arith)) in
-    let line_is : above ≡ line (exported_line s.period (line_count file)) = ap₂ (λ p n. line (exported_line p n)) of lines_are in
-    let all : whole ≡ old ++ file ++ above = is_whole ∙ ap (λ t. t ++ above) is_made in
-    let many : count ≡ length above = omega (arith, counts, ends, ap length is_whole, length-append made above) in
-    let turned_to : turned ≡ old ++ (above ++ file) =
-    turn ∙ ap (λ t. take before t ++ (drop (length t - before - count) (drop before t) ++ take (length t - before - count) (drop before t))) (is_slice ∙ all)
-    ∙ turned_is old file above before count at many in
-    let same_size : length turned ≡ length whole =
-    omega (arith, ap length turned_to, ap length all, length-append old (above ++ file), length-append above file, length-append (old ++ file) above, length-append old file) in
-    let none_left : drop (length turned) whole ≡ [] = ap (λ n. drop n whole) same_size ∙ drop-length whole in
-    ap (λ t. take size (turned ++ t)) none_left ∙ ap (take size) (append-nil turned) ∙ take_all size turned (omega (arith, same_size, sized))
-    ∙ turned_to ∙ ap (λ t. old ++ (t ++ file)) line_is
+pub file_told : (s : world.Snapshot) (old above file : List ℕ) (period lines : ℕ)
+    → above ≡ old ++ exported_line period lines → period ≡ s.period → lines ≡ line_count (file_of s) → file ≡ file_of s
+    → above ++ file ≡ old ++ reply_text (world.Exported s)
+file_told s old above file period lines is_above of counted is_file =
+    ap₂ ◌++◌ is_above is_file ∙ append_assoc old (exported_line period lines) (file_of s)
+    ∙ ap₂ (λ p n. old ++ (exported_line p n ++ file_of s)) of counted

@@ -1,8 +1,8 @@
 //! Pieces of an answer, written as lines of text.
 
-ghost use Rattle.std.specs.Prelude.{◌≡◌, ◌≢◌, ◌+◌, ◌-◌, ◌≤◌, ◌∷◌, [], ◌++◌, None, codes, decimal, drop, length, take, OnOk};
+ghost use Rattle.std.specs.Prelude.{◌≡◌, ◌≢◌, ◌∷◌, [], ◌++◌, None, codes, decimal, unwrap_or, OnOk};
 ghost use Rattle.std.specs.Option.{option_copied, option_map};
-ghost use Rattle.metering_model.specs.Transcript.{if_any, line, reply_text, with_number};
+ghost use Rattle.metering_model.specs.Transcript.{line, reply_text, with_number};
 ghost use Rattle.metering_model.specs.Batch.{line_of_fields};
 ghost use Rattle.metering_model.specs.World as world;
 ghost use Rattle.group_events.specs.Batches.{batch_of};
@@ -15,7 +15,7 @@ ghost use Rattle.process_text.specs.Inner.Written.{given_text};
 
 use answer_words::replies::{put_exported, put_kept, put_refused};
 use byte_text::{line_count, put_numbered};
-use export_file::ExportFile;
+use export_file::{HeldText, LineRoom};
 use group_events::{OwnedBatch, Period, Snapshot};
 use group_node::Packet;
 use group_process::ProcessRefusal;
@@ -30,6 +30,10 @@ const SENT: &[u8] = b"sent\n";
 pub(crate) const FOREIGN: &[u8] = b"refused G16\n";
 /// What is told where a line is no command.
 pub(crate) const NO_COMMAND: &[u8] = b"refused L6\n";
+
+/// From so many bytes on, of some 3,000 rows, a file stands behind the text of its answer. A smaller one is copied into that, so that
+/// both are one write: it stands in memory twice then, and the room of its copy stays.
+const MANY_BYTES: usize = 1_048_576;
 
 // Each of these appends a piece of an answer. Where an allocation fails some of the piece may stand there.
 
@@ -176,20 +180,6 @@ pub(crate) fn put_sent(
     put_packet(text, group, packet)
 }
 
-/// Appends that a packet was taken, and which period was learned by it, if one was.
-pub(crate) fn put_delivered(text: &mut Vec<u8>, learned: Option<Period>) -> Result<(), AllocError>
-    ensures { OnOk result (text.new.items ≡ text.old.items
-        ++ line (codes "delivered" ++ if_any (codes " learned ") learned)) }
-{
-    let Ok(()) = text.extend_from_slice(b"delivered") else {
-        return Err(AllocError);
-    };
-    match learned {
-        Some(period) => put_line(text, b" learned ", u32::from(period.number())),
-        None => text.extend_from_slice(b"\n"),
-    }
-}
-
 /// Ends a line, and appends what stands below it.
 fn put_below(text: &mut Vec<u8>, below: &[u8]) -> Result<(), AllocError>
     ensures { OnOk result (text.new.items ≡ text.old.items ++ (codes "\n" ++ below.now)) }
@@ -212,38 +202,29 @@ fn put_above(text: &mut Vec<u8>, period: Period, lines: usize) -> Result<(), All
     text.extend_from_slice(b"\n")
 }
 
-/// Rotates what stands from a place on, so that its last bytes, so many, come first.
-fn turn(text: &mut [u8], place: usize, count: usize)
-    requires { place + count ≤ length text.old }
-    ensures { text.new ≡ take place text.old
-        ++ (drop (length text.old - place - count) (drop place text.old)
-        ++ take (length text.old - place - count) (drop place text.old)) }
-{
-    text[place..].rotate_right(count);
-}
-
-/// Appends a file, and above it its period and how many lines it has. The file is made where it stays, so it stands in memory once:
-/// its line, which is known only then, is put behind it and rotated to its front.
+/// Appends a file, and above it its period and how many lines it has; but a great file is what stands behind the text then.
 pub(crate) fn put_file(
     alloc: Global,
     text: &mut Vec<u8>,
+    file: &mut Option<HeldText>,
     snapshot: &Snapshot,
 ) -> Result<(), AllocError>
-    ensures { OnOk result (text.new.items
+    requires { file.old ≡ None }
+    ensures { OnOk result (text.new.items ++ unwrap_or file.new []
         ≡ text.old.items ++ reply_text (world.Exported snapshot.now)) }
 {
-    let before = text.len();
-    let Ok(()) = snapshot.put_csv(alloc, text) else {
+    let mut held = HeldText::new(alloc);
+    let Ok(lines) = held.set_file(alloc, &mut LineRoom::new(), snapshot) else {
         return Err(AllocError);
     };
-    let lines = line_count(&text[before..]);
-    let end = text.len();
     let Ok(()) = put_above(text, snapshot.period(), lines) else {
         return Err(AllocError);
     };
-    let count = text.len() - end;
-    turn(text.as_mut_slice(), before, count);
-    Ok(())
+    if held.has_bytes(MANY_BYTES) {
+        *file = Some(held);
+        return Ok(());
+    }
+    held.copy_to(text)
 }
 
 /// Appends a kept text, and above it how many lines it has.

@@ -2,9 +2,11 @@
 #![tactic(auto)]
 
 mod agents;
+mod answer_texts;
 mod answers;
 mod nodes;
 mod processes;
 mod requests;
 
+pub use answer_texts::AnswerText;
 pub use processes::Process;

@@ -1,6 +1,6 @@
 //! What a node is asked, and answers.
 
-ghost use Rattle.std.specs.Prelude.{◌≡◌, ◌++◌, None, Some, OnOk};
+ghost use Rattle.std.specs.Prelude.{◌≡◌, [], ◌++◌, None, Some, unwrap_or, OnOk};
 ghost use Rattle.std.specs.Option.{option_map};
 ghost use Rattle.process_laws.specs.LocalSteps.{BeginBallot, ExportPeriod, HasBegun, HasTaken, SendBatch, TakePacket, TellKept};
 ghost use Rattle.group_node.specs.Packets.{packet_of};
@@ -12,10 +12,12 @@ ghost use Rattle.process_text.specs.Requests.{AsksNode, node_request, packet_req
 ghost use Rattle.process_text.specs.Inner.Written.{AppendsNode};
 
 use crate::answers::{
-    FOREIGN, NO_COMMAND, addressee, put_added, put_delivered, put_file, put_given, put_kept_text,
-    put_line, put_refusal, put_sent,
+    FOREIGN, NO_COMMAND, addressee, put_added, put_file, put_given, put_kept_text, put_refusal,
+    put_sent,
 };
 use crate::requests::{NodeRequest, node_request};
+use answer_words::replies::{put_ballot, put_delivered_line};
+use export_file::HeldText;
 use group_node::Packet;
 use group_process::{Added, Begun, Group, NodeProcess, Taken};
 use packet_text::{GroupPacket, read_packet};
@@ -73,7 +75,7 @@ fn put_taken(
     let Ok(()) = put_sends(text, node.group(), packet, &taken.sends) else {
         return Err(AllocError);
     };
-    put_delivered(text, taken.learned)
+    put_delivered_line(text, taken.learned)
 }
 
 /// Has a node take a packet.
@@ -123,7 +125,10 @@ fn put_started(text: &mut Vec<u8>, node: &NodeProcess, begun: &Begun) -> Result<
     let Ok(()) = put_sent(text, node.group().name(), None, &begun.sends) else {
         return Err(AllocError);
     };
-    put_line(text, b"started ballot ", begun.ballot.number())
+    let Ok(()) = put_ballot(text, begun.ballot) else {
+        return Err(AllocError);
+    };
+    text.extend_from_slice(b"\n")
 }
 
 /// Has a node begin a ballot.
@@ -137,19 +142,21 @@ fn begin(node: &mut NodeProcess, text: &mut Vec<u8>) -> Result<(), AllocError>
     }
 }
 
-/// Has a node export a period.
+/// Has a node export a period: a great file is what stands behind the text then.
 fn export(
     alloc: Global,
     node: &NodeProcess,
     period: u16,
     text: &mut Vec<u8>,
+    file: &mut Option<HeldText>,
 ) -> Result<(), AllocError>
+    requires { file.old ≡ None }
     ensures { OnOk result (AppendsNode (AsksNode (ExportPeriod period))
-        node.now node.now text.old.items text.new.items) }
+        node.now node.now text.old.items (text.new.items ++ unwrap_or file.new [])) }
 {
     match node.export(alloc, period) {
         Ok(Ok(snapshot)) => {
-            let put = put_file(alloc, text, &snapshot);
+            let put = put_file(alloc, text, file, &snapshot);
             // Dropped by a call for the prover's time alone (docs/DECISIONS.md).
             snapshot.release();
             put
@@ -179,23 +186,25 @@ fn give(node: &NodeProcess, agent: u8, seq: u32, text: &mut Vec<u8>) -> Result<(
 }
 
 /// Does what a node is asked by a line and the lines below it, of which `packet_lines` tells how many belong to it, and
-/// makes the text what it answers. An error is an allocation failure: then nothing of the text may leave, and nothing may be
-/// asked of the node any more, since it may have done what was not told.
+/// makes the text what it answers, and a great file what stands behind it. An error is an allocation failure: then nothing of
+/// both may leave, and nothing may be asked of the node any more, since it may have done what was not told.
 pub(crate) fn answer_node(
     alloc: Global,
     node: &mut NodeProcess,
     line: &[u8],
     below: &[u8],
     text: &mut Vec<u8>,
+    file: &mut Option<HeldText>,
 ) -> Result<(), AllocError>
-    ensures { OnOk result
-        (AnswersNode (node_request line.now below.now) node.old node.new text.new.items) }
+    requires { file.old ≡ None }
+    ensures { OnOk result (AnswersNode (node_request line.now below.now) node.old node.new
+        (text.new.items ++ unwrap_or file.new [])) }
 {
     text.clear();
     match node_request(line) {
         NodeRequest::Packet => take(alloc, node, below, text),
         NodeRequest::Begin => begin(node, text),
-        NodeRequest::Export(period) => export(alloc, node, period, text),
+        NodeRequest::Export(period) => export(alloc, node, period, text, file),
         NodeRequest::Keep => keep(alloc, node, text),
         NodeRequest::Give { agent, seq } => give(node, agent, seq, text),
         NodeRequest::NoCommand => text.extend_from_slice(NO_COMMAND),

@@ -5,6 +5,7 @@ ghost use Rattle.process_text.specs.Answers.{Answers, begun_text};
 ghost use Rattle.process_text.specs.Requests.{lines_below, most_packet_lines};
 
 use crate::agents::answer_agent;
+use crate::answer_texts::AnswerText;
 use crate::answers::put_line;
 use crate::nodes::answer_node;
 use crate::requests::{journal_lines, packet_lines};
@@ -39,31 +40,35 @@ impl Process {
         alloc: Global,
         line: &[u8],
         below: &[u8],
-        text: &mut Vec<u8>,
+        said: &mut AnswerText,
     ) -> Result<(), AllocError>
-        ensures { OnOk result (Answers self.old line.now below.now self.new text.new.items) }
+        ensures { OnOk result (Answers self.old line.now below.now self.new said.new) }
     {
+        said.file = None;
         match self {
-            Process::Node(node) => answer_node(alloc, node, line, below, text),
-            Process::Agent(agent) => answer_agent(alloc, agent, line, below, text),
+            Process::Node(node) => {
+                answer_node(alloc, node, line, below, &mut said.text, &mut said.file)
+            }
+            Process::Agent(agent) => answer_agent(alloc, agent, line, below, &mut said.text),
         }
     }
 
     /// Makes the text what the process says before it is asked: from where it goes on. An error is an allocation failure:
     /// then nothing of the text may leave.
-    pub fn put_begun(&self, text: &mut Vec<u8>) -> Result<(), AllocError>
-        ensures { OnOk result (text.new.items ≡ begun_text self.now) }
+    pub fn put_begun(&self, said: &mut AnswerText) -> Result<(), AllocError>
+        ensures { OnOk result (said.new ≡ begun_text self.now) }
     {
-        text.clear();
+        said.file = None;
+        said.text.clear();
         match self {
             Process::Node(node) => {
                 let period = u128::from(node.current_period());
-                let Ok(()) = put_numbered(text, b"begun period ", period) else {
+                let Ok(()) = put_numbered(&mut said.text, b"begun period ", period) else {
                     return Err(AllocError);
                 };
-                put_line(text, b" round ", u32::from(node.round()))
+                put_line(&mut said.text, b" round ", u32::from(node.round()))
             }
-            Process::Agent(agent) => put_line(text, b"begun seq ", agent.next_seq()),
+            Process::Agent(agent) => put_line(&mut said.text, b"begun seq ", agent.next_seq()),
         }
     }
 }

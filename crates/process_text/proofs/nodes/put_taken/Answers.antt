@@ -14,9 +14,9 @@ returns c =
     let p = packet_of c.args.packet.now in
     let sends = option_map packet_of c.args.taken.now.sends in
     let sent = c.in-Ok-put_sends.ensures ∙ ap (λ g. c.put_added_by.new.text.items ++ sent_text g.name (addressee g.voters p) sends) c.group.ensures in
-    then_ok c.put_delivered.result _ _
-    (three_put c.args.text.now.items c.put_added_by.new.text.items c.put_sends.new.text.items c.put_delivered.new.text.items
+    then_ok c.put_delivered_line.result _ _
+    (three_put c.args.text.now.items c.put_added_by.new.text.items c.put_sends.new.text.items c.put_delivered_line.new.text.items
     (added_text (increment_after c.args.taken.now.added (kept_of_node c.args.node.now)))
     (sent_text c.args.node.now.group.name (addressee c.args.node.now.group.voters p) sends)
     (line (codes "delivered" ++ if_any (codes " learned ") c.args.taken.now.learned)) c.in-Ok.ensures sent)
-    c.put_delivered.ensures
+    c.put_delivered_line.ensures
