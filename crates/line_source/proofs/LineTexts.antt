@@ -1,4 +1,4 @@
--- Lines that stand in a text: the first one, those at its front, and those behind its first bytes.
+-- Lines that stand in a text: the first one, those at its beginning, and those behind its first bytes.
 use Rattle.std.proofs.Common.{◌≡◌, ℕ, ◌+◌, ◌<◌, ◌≤◌, true, List, [], ◌∷◌, ◌++◌, length, take, drop, Option, Some, None, refl, sym, ap, ◌∙◌, arith, append_assoc, append-nil, subst}
 use Rattle.std.specs.List.{list_all, position}
 use Rattle.std.specs.Prelude.{◌==◌}
@@ -38,9 +38,9 @@ no_line text none =
     let alone : list_all (lacks 10) (text ∷ []) ≡ true = ap (list_all (lacks 10)) (sym (split_nowhere (λ (c : ℕ). c == 10) text 0 none)) ∙ parts_lack 10 text in
     (and_parts (lacks 10 text) true alone).0
 
--- where the front has no line feed, the first line ends behind it
+-- where the prefix has no line feed, the first line ends behind it
 pub line_behind : (text : List ℕ) (n i : ℕ) → n ≤ length text → lacks 10 (take n text) ≡ true → IsLineAt (drop n text) i → IsLineAt text (n + i)
-line_behind text n i few front it =
+line_behind text n i few prefix it =
     let first = take i (drop n text) in
     let rest = drop (i + 1) (drop n text) in
     let l : List ℕ = take n text ++ first in
@@ -48,17 +48,17 @@ line_behind text n i few front it =
     sym (take-append-drop n text) ∙ ap (λ t. take n text ++ t) (it.split ∙ append_assoc first (10 ∷ []) rest) ∙ sym (append_assoc (take n text) first (10 ∷ rest)) in
     let size : length l ≡ n + i =
     length-append (take n text) first ∙ (let one = length-take-le n text few in let within = it.within in let two = length-take-le i (drop n text) (omega (arith, within)) in omega (arith, one, two)) in
-    let is_front : take (n + i) text ≡ l = ap (λ t. take (n + i) t) whole ∙ ap (λ k. take k (l ++ 10 ∷ rest)) (sym size) ∙ take-append_seam l (10 ∷ rest) in
+    let is_prefix : take (n + i) text ≡ l = ap (λ t. take (n + i) t) whole ∙ ap (λ k. take k (l ++ 10 ∷ rest)) (sym size) ∙ take-append_seam l (10 ∷ rest) in
     let longer : length (l ++ 10 ∷ []) ≡ n + i + 1 = length-append l (10 ∷ []) ∙ omega (arith, size) in
     let is_rest : drop (n + i + 1) text ≡ rest =
     ap (λ t. drop (n + i + 1) t) (whole ∙ sym (append_assoc l (10 ∷ []) rest)) ∙ ap (λ k. drop k ((l ++ 10 ∷ []) ++ rest)) (sym longer) ∙ drop-append_seam (l ++ 10 ∷ []) rest in
     record {
       within = let within = it.within in let left = length-drop n text in omega (arith, within, left, few);
-      whole = ap (lacks 10) is_front ∙ list_all_both _ (take n text) first front it.whole;
-      split = whole ∙ sym (append_assoc l (10 ∷ []) rest) ∙ ap (λ t. line t ++ rest) (sym is_front) ∙ ap (λ t. line (take (n + i) text) ++ t) (sym is_rest);
+      whole = ap (lacks 10) is_prefix ∙ list_all_both _ (take n text) first prefix it.whole;
+      split = whole ∙ sym (append_assoc l (10 ∷ []) rest) ∙ ap (λ t. line t ++ rest) (sym is_prefix) ∙ ap (λ t. line (take (n + i) text) ++ t) (sym is_rest);
     }
 
--- ---- lines at the front
+-- ---- lines at the beginning
 
 lines_append : (ls ms : TextLines) → lines_text (ls ++ ms) ≡ lines_text ls ++ lines_text ms
 lines_append ls ms = flat_map-append line ls ms

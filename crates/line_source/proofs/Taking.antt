@@ -29,8 +29,8 @@ module _ {a b : List ℕ} {r s : ℕ} {l m : Option (List ℕ)} {xs : List ℕ} 
   reads_on {c} {t} {n} next = subst (Takes a c r t l n) (append-nil xs) (takes_on next)
 
   -- some of what is ahead is taken
-  pub takes_front : (c ys : List ℕ) → b ≡ ys ++ c → Takes a c r s l m (xs ++ ys)
-  takes_front c ys is = record {
+  pub takes_prefix : (c ys : List ℕ) → b ≡ ys ++ c → Takes a c r s l m (xs ++ ys)
+  takes_prefix c ys is = record {
     came = it.came;
     consumed = it.consumed;
     joined = it.joined ∙ ap (λ u. xs ++ u) is ∙ sym (append_assoc xs ys c);
@@ -39,13 +39,13 @@ module _ {a b : List ℕ} {r s : ℕ} {l m : Option (List ℕ)} {xs : List ℕ} 
 
   -- or all
   pub takes_all : Takes a [] r s l m (xs ++ b)
-  takes_all = takes_front [] b (sym (append-nil b))
+  takes_all = takes_prefix [] b (sym (append-nil b))
 
   -- or a line that ends there
   pub takes_line : {c : List ℕ} {s' : ℕ} (ends : (end : ℕ) × IsLineAt b end × (c ≡ drop (end + 1) b)) → s' ≡ s → Takes a c r s' l m (xs ++ line (take ends.0 b))
   takes_line {c} {s'} ends same =
       let text = take ends.0 b in
-      subst (λ (x : ℕ). Takes a c r x l m (xs ++ line text)) (sym same) (takes_front c (line text) (ends.1.split ∙ ap (λ t. line text ++ t) (sym ends.2)))
+      subst (λ (x : ℕ). Takes a c r x l m (xs ++ line text)) (sym same) (takes_prefix c (line text) (ends.1.split ∙ ap (λ t. line text ++ t) (sym ends.2)))
 
   -- what came was read, whatever was taken
   pub only_read : Takes a (a ++ it.came) r s l m []

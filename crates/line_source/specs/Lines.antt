@@ -15,7 +15,7 @@ pub record IsLineAt (text : List ℕ) (at : ℕ) : Type 0 where
   pub whole : lacks 10 (take at text) ≡ true
   pub split : text ≡ line (take at text) ++ drop (at + 1) text
 
--- So many lines stand at the front of a text, and have so many bytes.
+-- So many lines stand at the beginning of a text, and have so many bytes.
 pub record AreInFront (text : List ℕ) (count at : ℕ) : Type 0 where
   pub lines : TextLines
   pub whole : list_all (lacks 10) lines ≡ true

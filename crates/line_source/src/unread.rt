@@ -45,9 +45,9 @@ impl Model for Unread {
     ghost invariant = { λ u. (u.from ≤ vec_len u.bytes) × (vec_len u.bytes ≤ u.from + u.read) };
 }
 
-/// Moves the bytes after the first ones to the front, and drops those. Where there is nothing to drop, nothing moves: a
+/// Moves the bytes after the first ones to the beginning, and drops those. Where there is nothing to drop, nothing moves: a
 /// long line would else be moved onto itself at each block that is read of it.
-fn drop_front(bytes: &mut Vec<u8>, count: usize)
+fn drop_prefix(bytes: &mut Vec<u8>, count: usize)
     requires { count ≤ length bytes.old.items }
     ensures { bytes.new.items ≡ drop count bytes.old.items }
 {
@@ -66,7 +66,7 @@ fn read_room<S: Source>(
     length: usize,
 ) -> Result<usize, SourceFault>
     requires { length < vec_len bytes.old }
-    ensures front { take length bytes.new.items ≡ take length bytes.old.items }
+    ensures prefix { take length bytes.new.items ≡ take length bytes.old.items }
     ensures length { vec_len bytes.new ≡ vec_len bytes.old }
     ensures reads { ReadsInto result (drop length bytes.new.items) (S.remaining source.old)
         (S.remaining source.new) (S.failed_calls source.old) (S.failed_calls source.new) }
@@ -142,13 +142,13 @@ impl Unread {
     }
 
     /// Gives back the room of what was taken, all but a block for what comes next: a long section would else hold its room for
-    /// as long as is read. What is ahead moves to the front, so this is for where little is. Where an allocation fails, the room
+    /// as long as is read. What is ahead moves to the beginning, so this is for where little is. Where an allocation fails, the room
     /// stays.
     pub fn release(&mut self)
         ensures bytes { self.new.bytes ≡ self.old.bytes }
         ensures read { self.new.read ≡ self.old.read }
     {
-        drop_front(&mut self.bytes, self.from);
+        drop_prefix(&mut self.bytes, self.from);
         self.from = 0;
         self.bytes.shrink_to(BLOCK);
     }
@@ -167,7 +167,7 @@ impl Unread {
             (S.failed_calls source.new) }
     {
         let most = (BLOCK as u64).min((MOST_BYTES - self.read).max(1)) as usize;
-        drop_front(&mut self.bytes, self.from);
+        drop_prefix(&mut self.bytes, self.from);
         self.from = 0;
         let length = self.bytes.len();
         let Ok(()) = self.bytes.resize(length + most, 0) else {

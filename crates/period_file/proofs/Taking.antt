@@ -8,7 +8,7 @@ use Rattle.metering_model.specs.Schedule.{lines_text}
 use Rattle.counted_io.specs.Writing.{AppendsSome, AppendsPrefix}
 use Rattle.counted_io.proofs.Prefixes.{prefix_behind}
 use Rattle.line_source.specs.Reading.{Takes}
-use Rattle.line_source.proofs.Taking.{reads_on, takes_front}
+use Rattle.line_source.proofs.Taking.{reads_on, takes_prefix}
 use Rattle.transcript_laws.proofs.TextLaws.{lines_append, whole_both}
 use Rattle.period_file.specs.Inner.Reading.{CopiesAhead, StopsAhead, Copies, Stops}
 
@@ -38,7 +38,7 @@ module _ {asked lacking : ℕ} {a b : List ℕ} {r s : ℕ} {l m u v : Option (L
     lines = it.lines ++ ahead.lines;
     whole = whole_both it.lines ahead.lines it.whole ahead.whole;
     counted = let sum = length-append it.lines ahead.lines in let one = it.counted in let two = ahead.counted in omega (arith, sum, one, two, is);
-    takes = subst (Takes a c r s l m) (sym (lines_append it.lines ahead.lines)) (takes_front it.takes c (lines_text ahead.lines) ahead.split);
+    takes = subst (Takes a c r s l m) (sym (lines_append it.lines ahead.lines)) (takes_prefix it.takes c (lines_text ahead.lines) ahead.split);
     appended =
         subst (Appends u w) (sym (lines_append it.lines ahead.lines)) (Appends-trans u v w (lines_text it.lines) (lines_text ahead.lines) it.appended ahead.appended);
   }
@@ -61,7 +61,7 @@ module _ {asked lacking : ℕ} {a b : List ℕ} {r s : ℕ} {l m u v : Option (L
     rest = ahead.rest;
     whole = whole_both it.lines ahead.lines it.whole ahead.whole;
     few = let sum = length-append it.lines ahead.lines in let one = it.counted in let two = ahead.few in omega (arith, sum, one, two);
-    takes = subst (Takes a ahead.rest r s l m) (sym (lines_append it.lines ahead.lines)) (takes_front it.takes ahead.rest (lines_text ahead.lines) ahead.split);
+    takes = subst (Takes a ahead.rest r s l m) (sym (lines_append it.lines ahead.lines)) (takes_prefix it.takes ahead.rest (lines_text ahead.lines) ahead.split);
     appended =
         subst (AppendsPrefix u w) (sym (lines_append it.lines ahead.lines))
         (prefix_behind u v w (lines_text it.lines) (lines_text ahead.lines) it.appended ahead.appended);
@@ -85,7 +85,7 @@ pub drops_on : {a b c e : List ℕ} {r s s' t : ℕ} {l m n : Option (List ℕ)}
 drops_on {a} {b} {c} {e} {r} {s} {s'} {t} {l} {m} {n} it k is same reads =
     let parts : b ≡ take k b ++ c = sym (take-append-drop k b) ∙ ap (λ u. take k b ++ u) (sym is) in
     let more : Takes c e s t m n [] = subst (λ (x : ℕ). Takes c e x t m n []) same reads in
-    (it.0 ++ take k b, reads_on (takes_front it.1 c (take k b) parts) more)
+    (it.0 ++ take k b, reads_on (takes_prefix it.1 c (take k b) parts) more)
 
 -- ---- answers that are results
 

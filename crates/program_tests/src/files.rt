@@ -1,7 +1,9 @@
-//! A file by a call that no word of the program asks for: one that begins after a cut.
+//! Files by calls that no word of the program asks for: one that begins after a cut, and one of a batch with a sheet and
+//! an issuer that were read before.
 
-use batch_player::file_between;
+use batch_player::{file_between, rate_batch};
 use batch_store::{Cut, Offer, Period, Store};
+use counted_io::Counted;
 use focus_row::rows_of;
 use price_sheet::{Issuer, Sheet};
 use std::alloc::{AllocError, Global};
@@ -94,5 +96,38 @@ fn a_file_begins_behind_its_first_cut(rt: HostRuntime) -> Result<(), Fail> {
     let second = has_lines(rt.alloc(), &store, 1, (1, 2), CORRECTION);
     let third = has_lines(rt.alloc(), &store, 1, (2, 2), b"");
     assert!(rt; first && second && third);
+    Ok(())
+}
+
+/// The file of January that the reading's batch has by itself.
+fn rated(alloc: Global, sheet: &Sheet, issuer: &Issuer) -> Option<Vec<u8>> {
+    let january = Period::new(0)?;
+    let batch = READ.to_vec(alloc).ok()?;
+    let mut sink = Counted::new(Vec::new(alloc));
+    match rate_batch(alloc, january, sheet, issuer, batch, &mut sink) {
+        Ok(()) => Some(sink.into_inner()),
+        Err(_) => None,
+    }
+}
+
+/// Whether that is the worked one, by a sheet and the sample issuer.
+fn is_rated(alloc: Global, sheet: &Sheet) -> bool {
+    let Ok(issuer) = Issuer::sample(alloc) else {
+        return false;
+    };
+    match rated(alloc, sheet, &issuer) {
+        Some(file) => file.strip_prefix(HEADER) == Some(LINE),
+        None => false,
+    }
+}
+
+/// A batch of one reading has the header line and the reading's.
+#[test]
+fn a_batch_is_rated_by_a_sheet_that_was_read(rt: HostRuntime) -> Result<(), Fail> {
+    let is_so = match Sheet::read(rt.alloc(), SHEET) {
+        Ok(sheet) => is_rated(rt.alloc(), &sheet),
+        Err(_) => false,
+    };
+    assert!(rt; is_so);
     Ok(())
 }

@@ -114,7 +114,7 @@ fn are_first_lines(text: &[u8], file: &[u8]) -> bool {
 }
 
 /// Whether the file is written, or an allocation failure is reported and its first lines were.
-fn is_front(alloc: Global, january: Period, shown: &(Vec<u8>, Vec<u8>), room: Vec<u8>) -> bool {
+fn is_prefix(alloc: Global, january: Period, shown: &(Vec<u8>, Vec<u8>), room: Vec<u8>) -> bool {
     let (input, file) = shown;
     let mut source = Counted::new(FakeReader::new(input));
     let mut sink = Counted::new(FakeWriter::new(room));
@@ -130,13 +130,13 @@ fn is_front(alloc: Global, january: Period, shown: &(Vec<u8>, Vec<u8>), room: Ve
 /// What is written of a file that is cut out are whole lines, the first ones. The file is longer than what is read at a
 /// time, so that some growths come when a part of it went out.
 #[test]
-fn a_refused_growth_leaves_a_front_of_the_file(rt: HostRuntime) -> Result<(), Fail> {
+fn a_refused_growth_leaves_a_prefix_of_the_file(rt: HostRuntime) -> Result<(), Fail> {
     let january = Period::new(0).ok_or("no period")?;
     if let (Ok(shown), Ok(room)) = (
         shown(rt.alloc(), 600, b"exported period 0 lines 601\n"),
         Vec::with_capacity(rt.alloc(), 262_144),
     ) {
-        let is_so = is_front(rt.alloc(), january, &shown, room);
+        let is_so = is_prefix(rt.alloc(), january, &shown, room);
         assert!(rt; is_so);
     }
     Ok(())

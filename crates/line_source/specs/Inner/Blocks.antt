@@ -9,7 +9,7 @@ use Rattle.line_source.specs.Faults.{tells_of_source}
 
 -- One read into room.
 pub record ReadsInto (result : Result ℕ SourceFault) (room : List ℕ) (left left' : Option (List ℕ)) (failed failed' : ℕ) : Type 0 where
-  -- what came stands at the front of the room, and fits into it
+  -- what came stands at the beginning of the room, and fits into it
   pub bound : ReadsAtMost result room
   -- the source lost it: at a fault nothing, and otherwise nothing only at its end
   pub consumed : ReadConsumes left left' result room
@@ -21,7 +21,7 @@ pub record ReadsInto (result : Result ℕ SourceFault) (room : List ℕ) (left l
 -- So many bytes came, and stand behind the first ones.
 pub record StandsBehind (at : ℕ) (old new : List ℕ) (came : ℕ) (left left' : Option (List ℕ)) : Type 0 where
   -- those stay
-  pub front : take at new ≡ take at old
+  pub prefix : take at new ≡ take at old
   -- nothing stands behind what came
   pub size : length new ≡ at + came
   -- there was room for it

@@ -29,7 +29,7 @@ end_fits ahead fresh from scanned i within size fits = omega (arith, within, siz
 
 -- no line feed is in either part
 none_in_both : (text : List ℕ) (n : ℕ) → lacks 10 (take n text) ≡ true → lacks 10 (drop n text) ≡ true → lacks 10 text ≡ true
-none_in_both text n front rest = ap (lacks 10) (sym (take-append-drop n text)) ∙ list_all_both _ (take n text) (drop n text) front rest
+none_in_both text n prefix rest = ap (lacks 10) (sym (take-append-drop n text)) ∙ list_all_both _ (take n text) (drop n text) prefix rest
 
 module _ {text after : List ℕ} {r s : ℕ} {l m : Option (List ℕ)} (reads : Takes text after r s l m []) (ahead : List ℕ) (is : ahead ≡ text) (from : ℕ) (within : from ≤ length text) where
   -- where more came, what was looked through is there still

@@ -9,11 +9,11 @@ use Rattle.line_source.proofs.unread.read_behind.Goals as goal
 
 stands : (at came : ℕ) (old room new : List ℕ) (l m : Option (List ℕ)) → at < length old → take at room ≡ take at old → length room ≡ length old → came ≤ length (drop at room) → Consumes l m (take came (drop at room)) → new ≡ take (at + came) room
     → StandsBehind at old new came l m
-stands at came old room new l m within front same fits consumed is =
+stands at came old room new l m within prefix same fits consumed is =
     let left = length-drop at room in
     let size : length new ≡ at + came = ap length is ∙ length-take-le (at + came) room (omega (arith, within, same, fits, left)) in
     record {
-      front = ap (take at) is ∙ take-take at (at + came) room (omega arith) ∙ front;
+      prefix = ap (take at) is ∙ take-take at (at + came) room (omega arith) ∙ prefix;
       size = size;
       bound = omega (arith, size, within, same, fits, left);
       consumed = subst (Consumes l m) (sym (ap (drop at) is ∙ drop-take at came room)) consumed;
@@ -22,12 +22,12 @@ stands at came old room new l m within front same fits consumed is =
 pub returns-in-Ok-clause-stands : goal.returns-in-Ok-clause-stands
 returns-in-Ok-clause-stands g c =
     let reads = c.in-Ok.ensures.reads in
-    stands c.args.length c.in-Ok.came c.args.bytes.now.items c.read_room.new.bytes.items c.truncate.new.self.items _ _ (omega arith) c.read_room.ensures.front (omega arith) reads.bound.0 reads.consumed.0 c.truncate.ensures.items
+    stands c.args.length c.in-Ok.came c.args.bytes.now.items c.read_room.new.bytes.items c.truncate.new.self.items _ _ (omega arith) c.read_room.ensures.prefix (omega arith) reads.bound.0 reads.consumed.0 c.truncate.ensures.items
 
 -- at a fault nothing came
 none_stands : (at : ℕ) (old room new : List ℕ) (l m : Option (List ℕ)) → at < length old → take at room ≡ take at old → length room ≡ length old → Keeps l m → new ≡ take at room → StandsBehind at old new 0 l m
-none_stands at old room new l m within front same kept is =
-    stands at 0 old room new l m within front same (omega arith) (Consumes-kept l l m [] (Consumes-nil l) kept) (is ∙ ap (λ n. take n room) (omega arith))
+none_stands at old room new l m within prefix same kept is =
+    stands at 0 old room new l m within prefix same (omega arith) (Consumes-kept l l m [] (Consumes-nil l) kept) (is ∙ ap (λ n. take n room) (omega arith))
 
 -- and what came is none only at the end
 came_none : {came : ℕ} → ◌≡◌ {A = Result ℕ SourceFault} (Ok came) (Ok 0) → came ≡ 0
@@ -45,7 +45,7 @@ returns-in-Ok-clause-end g c = λ is.
 
 pub returns-in-Err-clause-stands : goal.returns-in-Err-clause-stands
 returns-in-Err-clause-stands g c =
-    none_stands c.args.length c.args.bytes.now.items c.read_room.new.bytes.items c.truncate-in-Err.new.self.items _ _ (omega arith) c.read_room.ensures.front (omega arith) c.in-Err.ensures.reads.consumed c.truncate-in-Err.ensures.items
+    none_stands c.args.length c.args.bytes.now.items c.read_room.new.bytes.items c.truncate-in-Err.new.self.items _ _ (omega arith) c.read_room.ensures.prefix (omega arith) c.in-Err.ensures.reads.consumed c.truncate-in-Err.ensures.items
 
 pub returns-in-Err-clause-end : goal.returns-in-Err-clause-end
 returns-in-Err-clause-end g c = λ is. no_answer is

@@ -15,13 +15,13 @@ room_size at size bytes room within all is =
 -- behind the first bytes is the room
 room_behind : (at size : ℕ) (bytes room more rest : List ℕ) → at ≤ length bytes → size ≡ at + length room → drop at (take size ((take at bytes ++ (room ++ more)) ++ rest)) ≡ room
 room_behind at size bytes room more rest within is =
-    let front = take at bytes in
-    let all = (front ++ (room ++ more)) ++ rest in
+    let prefix = take at bytes in
+    let all = (prefix ++ (room ++ more)) ++ rest in
     let behind = room ++ (more ++ rest) in
-    let regrouped : all ≡ front ++ behind = append_assoc front (room ++ more) rest ∙ ap (λ t. front ++ t) (append_assoc room more rest) in
+    let regrouped : all ≡ prefix ++ behind = append_assoc prefix (room ++ more) rest ∙ ap (λ t. prefix ++ t) (append_assoc room more rest) in
     ap (λ n. drop at (take n all)) is
     ∙ drop-take at (length room) all
-    ∙ ap (take (length room)) (ap (drop at) regrouped ∙ ap (λ n. drop n (front ++ behind)) (sym (length-take-le at bytes within)) ∙ drop-append_seam front behind)
+    ∙ ap (take (length room)) (ap (drop at) regrouped ∙ ap (λ n. drop n (prefix ++ behind)) (sym (length-take-le at bytes within)) ∙ drop-append_seam prefix behind)
     ∙ take-append_seam room (more ++ rest)
 
 -- so what is said of the room is said of what stands there

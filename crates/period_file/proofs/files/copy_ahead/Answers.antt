@@ -7,32 +7,32 @@ use Rattle.metering_model.specs.Schedule.{lines_text}
 use Rattle.period_file.specs.Inner.Reading.{CopiesAhead, StopsAhead}
 use Rattle.period_file.proofs.files.copy_ahead.Goals as goal
 
--- lines at the front of what is ahead, which was asked for twice
+-- lines at the beginning of what is ahead, which was asked for twice
 module _ {text again ahead : List ℕ} {count at : ℕ} (is : text ≡ ahead) (is_too : again ≡ ahead) (lines : AreInFront text count at) where
-  front : AreInFront ahead count at
-  front = subst (λ (t : List ℕ). AreInFront t count at) is lines
+  prefix : AreInFront ahead count at
+  prefix = subst (λ (t : List ℕ). AreInFront t count at) is lines
 
-  are_lines : take at again ≡ lines_text front.lines
+  are_lines : take at again ≡ lines_text prefix.lines
   are_lines =
-      ap (take at) (is_too ∙ front.split) ∙ ap (λ n. take n (lines_text front.lines ++ drop at ahead)) (sym front.size)
-      ∙ take-append_seam (lines_text front.lines) (drop at ahead)
+      ap (take at) (is_too ∙ prefix.split) ∙ ap (λ n. take n (lines_text prefix.lines ++ drop at ahead)) (sym prefix.size)
+      ∙ take-append_seam (lines_text prefix.lines) (drop at ahead)
 
   copied : {v w : Option (List ℕ)} {rest : List ℕ} → Appends v w (take at again) → rest ≡ drop at ahead → CopiesAhead count ahead rest v w
   copied {v} {w} written left = record {
-    lines = front.lines;
-    whole = front.whole;
-    counted = front.counted;
-    split = front.split ∙ ap (λ r. lines_text front.lines ++ r) (sym left);
+    lines = prefix.lines;
+    whole = prefix.whole;
+    counted = prefix.counted;
+    split = prefix.split ∙ ap (λ r. lines_text prefix.lines ++ r) (sym left);
     appended = subst (Appends v w) are_lines written;
   }
 
   stopped : {v w : Option (List ℕ)} {most : ℕ} → count ≤ most → AppendsPrefix v w (take at again) → StopsAhead most ahead v w
   stopped {v} {w} few written = record {
-    lines = front.lines;
+    lines = prefix.lines;
     rest = drop at ahead;
-    whole = front.whole;
-    few = let counted = front.counted in omega (arith, few, counted);
-    split = front.split;
+    whole = prefix.whole;
+    few = let counted = prefix.counted in omega (arith, few, counted);
+    split = prefix.split;
     appended = subst (AppendsPrefix v w) are_lines written;
   }
 

@@ -27,7 +27,7 @@ reads : (held ys old new : List ℕ) (at most came r s : ℕ) (l m : Option (Lis
 reads held ys old new at most came r s l m size is stands counted = record {
   came = drop at new;
   consumed = stands.consumed;
-  joined = ap (λ t. t ++ drop at new) (sym (stands.front ∙ ap (take at) is ∙ room_behind held ys at most size)) ∙ take-append-drop at new;
+  joined = ap (λ t. t ++ drop at new) (sym (stands.prefix ∙ ap (take at) is ∙ room_behind held ys at most size)) ∙ take-append-drop at new;
   counted = let long = stands.size in omega (arith, counted, long, length-drop at new);
 }
 
@@ -118,16 +118,16 @@ short : (g : given.Over) (c : After-self g) → c.self.inside.read ≤ 4_294_967
 short g c = subst (λ u. u.read ≤ 4_294_967_296) (sym c.self.view_is) c.requires
 
 -- what was ahead is all that is left at first
-ahead_is : (g : given.Over) (c : After-read_behind g) → c.drop_front.new.bytes.items ≡ c.args.self.now.bytes
-ahead_is g c = c.drop_front.ensures ∙ ap (λ u. u.bytes) c.self.view_is
+ahead_is : (g : given.Over) (c : After-read_behind g) → c.drop_prefix.new.bytes.items ≡ c.args.self.now.bytes
+ahead_is g c = c.drop_prefix.ensures ∙ ap (λ u. u.bytes) c.self.view_is
 
-size : (g : given.Over) (c : After-read_behind g) → c.len-length.result ≡ length c.drop_front.new.bytes.items
-size g c = c.len-length.ensures ∙ c.drop_front.new.bytes.ok.0
+size : (g : given.Over) (c : After-read_behind g) → c.len-length.result ≡ length c.drop_prefix.new.bytes.items
+size g c = c.len-length.ensures ∙ c.drop_prefix.new.bytes.ok.0
 
 -- all of it was read
 few : (g : given.Over) (c : After-read_behind g) → c.len-length.result ≤ c.self.inside.read
 few g c =
-    held_few c.len-length.result c.self.inside.from c.self.inside.read c.self.inside.bytes.len c.drop_front.new.bytes.items c.self.inside.bytes.items (size g c) c.drop_front.ensures c.self.inside.bytes.ok.0
+    held_few c.len-length.result c.self.inside.from c.self.inside.read c.self.inside.bytes.len c.drop_prefix.new.bytes.items c.self.inside.bytes.items (size g c) c.drop_prefix.ensures c.self.inside.bytes.ok.0
     c.self.invariant.1
 
 -- a block is asked for at most
@@ -136,7 +136,7 @@ block g c = block_asked c.max.result c.min-most.result c.min-most.ensures
 
 -- where there is no room, it stays
 left_is : (g : given.Over) (c : In_default g) → c.resize.new.self.items ≡ c.args.self.now.bytes
-left_is g c = c.in_default.ensures.items ∙ c.drop_front.ensures ∙ ap (λ u. u.bytes) c.self.view_is
+left_is g c = c.in_default.ensures.items ∙ c.drop_prefix.ensures ∙ ap (λ u. u.bytes) c.self.view_is
 
 -- so much came, and is ahead behind it
 takes : (g : given.Over) (c : After-read_behind g) (came s : ℕ)
@@ -147,8 +147,8 @@ takes g c came s stands counted =
     let l = g.S.Source.remaining c.args.source.now in
     let m = g.S.Source.remaining c.read_behind.new.source in
     subst (λ t. Takes t c.read_behind.new.bytes.items c.args.self.now.read s l m []) (ahead_is g c)
-    (subst (λ r. Takes c.drop_front.new.bytes.items c.read_behind.new.bytes.items r s l m []) (ap (λ u. u.read) c.self.view_is)
-    (reads c.drop_front.new.bytes.items _ c.resize.new.self.items c.read_behind.new.bytes.items c.len-length.result c.min-most.result came c.self.inside.read s l m (size g c) c.in-Ok.ensures.items stands counted))
+    (subst (λ r. Takes c.drop_prefix.new.bytes.items c.read_behind.new.bytes.items r s l m []) (ap (λ u. u.read) c.self.view_is)
+    (reads c.drop_prefix.new.bytes.items _ c.resize.new.self.items c.read_behind.new.bytes.items c.len-length.result c.min-most.result came c.self.inside.read s l m (size g c) c.in-Ok.ensures.items stands counted))
 
 -- no more than was asked for
 came_asked : (g : given.Over) (c : After-read_behind g) (came : ℕ)
@@ -171,16 +171,16 @@ told g c = let p = err_from_is_err_and c.from_residual.result c.from_residual.en
 pub overflow_sub-self-inside : goal.overflow_sub-self-inside
 overflow_sub-self-inside g c = short g c
 
-pub drop_front-requires : goal.drop_front-requires
-drop_front-requires g c = subst (λ n. c.self.inside.from ≤ n) c.self.inside.bytes.ok.0 c.self.invariant.0
+pub drop_prefix-requires : goal.drop_prefix-requires
+drop_prefix-requires g c = subst (λ n. c.self.inside.from ≤ n) c.self.inside.bytes.ok.0 c.self.invariant.0
 
 pub overflow_add-length : goal.overflow_add-length
 overflow_add-length g c =
     let at = goal.at.overflow_add-length g c in
     fits_with c.len-length.result c.min-most.result
     (le_trans
-    (held_few c.len-length.result c.self.inside.from c.self.inside.read c.self.inside.bytes.len c.drop_front.new.bytes.items c.self.inside.bytes.items (c.len-length.ensures ∙ c.drop_front.new.bytes.ok.0)
-    c.drop_front.ensures c.self.inside.bytes.ok.0 c.self.invariant.1)
+    (held_few c.len-length.result c.self.inside.from c.self.inside.read c.self.inside.bytes.len c.drop_prefix.new.bytes.items c.self.inside.bytes.items (c.len-length.ensures ∙ c.drop_prefix.new.bytes.ok.0)
+    c.drop_prefix.ensures c.self.inside.bytes.ok.0 c.self.invariant.1)
     (short g at.After-self))
     (block_asked c.max.result c.min-most.result c.min-most.ensures)
 
@@ -190,8 +190,8 @@ pub invariant_of-self : goal.invariant_of-self
 invariant_of-self g c = (
   omega arith,
   same_read c.len-length.result c.self.inside.read c.resize.new.self.len
-      (held_few c.len-length.result c.self.inside.from c.self.inside.read c.self.inside.bytes.len c.drop_front.new.bytes.items c.self.inside.bytes.items (c.len-length.ensures ∙ c.drop_front.new.bytes.ok.0)
-      c.drop_front.ensures c.self.inside.bytes.ok.0 c.self.invariant.1)
+      (held_few c.len-length.result c.self.inside.from c.self.inside.read c.self.inside.bytes.len c.drop_prefix.new.bytes.items c.self.inside.bytes.items (c.len-length.ensures ∙ c.drop_prefix.new.bytes.ok.0)
+      c.drop_prefix.ensures c.self.inside.bytes.ok.0 c.self.invariant.1)
       (c.in_default.ensures.len ∙ sym c.len-length.ensures),
 )
 
